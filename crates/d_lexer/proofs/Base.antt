@@ -5,8 +5,8 @@ use Rattle.std.proofs.lemmas.List.Sums.{take_while-cons}
 use Rattle.d_lexer.specs.declared.place.Place.{Place}
 use Rattle.d_lexer.specs.declared.position.Position.{Position}
 use Rattle.d_lexer.specs.Places.{position_after, after_byte}
-use Rattle.d_lexer.specs.Tokens.{Fills}
-use Rattle.d_lexer.specs.Steps.Scan.{run_len, front_run, scan}
+use Rattle.d_lexer.specs.{Tokens.Fills, Faults.IsFault}
+use Rattle.d_lexer.specs.Steps.Scan.{run_len, front_run, scan, TokensEnd, Clean, Bad}
 
 -- z is own and rest, own has n bytes, and P holds of them
 pub record Split (P : List ℕ → List ℕ → Type 0) (n : ℕ) (z : List ℕ) : Type 0 where
@@ -15,6 +15,11 @@ pub record Split (P : List ℕ → List ℕ → Type 0) (n : ℕ) (z : List ℕ)
   pub is : z ≡ own ++ rest
   pub size : n ≡ length own
   pub holds : P own rest
+
+-- what is left where the tokens end
+abbrev pub EndsAs : TokensEnd → Place → Position → List ℕ → Type 0
+EndsAs Clean = λ p pos rest. rest ≡ []
+EndsAs (Bad fault) = IsFault fault
 
 pub cond_is : {A : Type 0} (P : A → Type 0) (c : Bool) (x y : A) → (c ≡ true → P x) → (c ≡ false → P y) → P (cond c x y)
 cond_is P true x y f g = f refl

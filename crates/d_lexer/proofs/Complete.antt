@@ -21,31 +21,28 @@ use Rattle.d_lexer.specs.declared.fault.Flaw.TheVariants as f
 use Rattle.d_lexer.specs.declared.fault.LexFault.{LexFault}
 use Rattle.d_lexer.specs.Bytes.{is_blank_byte, is_word_start, is_word_byte, is_run_byte, is_inside}
 use Rattle.d_lexer.specs.Bytes.{stands_for_itself, begins_comment, escape_of, is_declaring}
-use Rattle.d_lexer.specs.Numbers.{IsNoNumber}
 use Rattle.d_lexer.specs.Steps.Numbers.{number_spelled}
 use Rattle.d_lexer.specs.Marks.{mark_of}
 use Rattle.d_lexer.specs.Steps.Marks.{mark_by}
 use Rattle.d_lexer.specs.Places.{position_after, after_byte, is_head, is_first, is_hash}
 use Rattle.d_lexer.specs.Places.{place_after}
-use Rattle.d_lexer.specs.Faults.{on_line}
 use Rattle.d_lexer.specs.Steps.OptionLine.{is_option}
 use Rattle.d_lexer.specs.Tokens.{StopsAt, Fills, HasNoEnd, IsSeparator, blank, comment, first_line}
 use Rattle.d_lexer.specs.Tokens.{Past, here, past, IsLongestRun, SpellsText, SpellsAggregation}
 use Rattle.d_lexer.specs.Tokens.{IsMark}
-use Rattle.d_lexer.specs.Tokens.{SpellsInside, SpellsHead, SpellsToken, begins, StopsText}
-use Rattle.d_lexer.specs.Tokens.{IsFrontFault}
-use Rattle.d_lexer.specs.Tokens.{stray, open_comment, text, number, option_line, other_option}
-use Rattle.d_lexer.specs.Tokens.{TokensEnd}
-use Rattle.d_lexer.specs.Tokens.{Clean, Bad, EndsAs, Lexes}
+use Rattle.d_lexer.specs.Tokens.{SpellsInside, SpellsHead, SpellsToken, option_line}
+use Rattle.d_lexer.specs.Faults.{on_line, begins, StopsText, IsFrontFault, stray, open_comment}
+use Rattle.d_lexer.specs.Faults.{text, number, other_option}
+use Rattle.d_lexer.specs.Tokens.{Lexes}
 use Rattle.d_lexer.specs.Steps.Scan.{with_byte, skip_one, text_from, comment_from, mark_at}
 use Rattle.d_lexer.specs.Steps.Scan.{mark_front}
 use Rattle.d_lexer.specs.Steps.Scan.{number_front, head_kind, aggregation_front, text_front}
 use Rattle.d_lexer.specs.Steps.Scan.{inside_at, head_at, token_at, front_at, Scanned}
 use Rattle.d_lexer.specs.Steps.Scan.{with_first_token}
-use Rattle.d_lexer.specs.Steps.Scan.{scan}
-use Rattle.d_lexer.proofs.Base.{run_fills, run_is, scan_skip}
+use Rattle.d_lexer.specs.Steps.Scan.{scan, TokensEnd, Clean, Bad}
+use Rattle.d_lexer.proofs.Base.{run_fills, run_is, scan_skip, EndsAs}
 use Rattle.d_lexer.proofs.Steps.{later_text, later_none}
-use Rattle.d_lexer.proofs.Numbers.{number_reads, none_reads}
+use Rattle.d_lexer.proofs.Numbers.{IsNoNumber, number_reads, none_reads}
 use Rattle.d_lexer.proofs.OptionLines.{option_reads, no_option_reads}
 use Rattle.d_lexer.proofs.MarkTables.{mark_walked}
 use Rattle.d_lexer.proofs.Marks.{MarkIs, mark_sound, mark_complete, mark_free, is_free}
@@ -346,8 +343,9 @@ fault_fails p pos bytes g (stray b z is h) =
       read = front_token p pos b z h.no_blank h.no_comment h.no_first h.no_hash ∙ token_mark p b z h.no_token ∙ ap mark_front (mark_none p b z (mark_at p b z) (mark_sound p b z) h.no_mark);
     }
 fault_fails p pos bytes g (open_comment z is h) = record { first = 47; others = 42 ∷ z; is = is; read = comment_fails p pos z h }
-fault_fails p pos bytes g (text z i is h) =
-    let read : text_from false z ≡ Err g = ap (text_from false) h.3 ∙ text_goes h.1 h.0 h.2 h.4 ∙ ap (later_text h.1 (length h.0)) (text_stops g h.2 h.5) in
+fault_fails p pos bytes g (text body w rest i is spells stops) =
+    let z = body ++ rest in
+    let read : text_from false z ≡ Err g = text_goes w body rest spells ∙ ap (later_text w (length body)) (text_stops g rest stops) in
     record { first = 34; others = z; is = is; read = front_inside p pos 34 z i refl refl refl ∙ inside_text p z ∙ ap text_front read }
 fault_fails p pos bytes g (number own rest i is h e) = number_fails p pos bytes own rest is (number_run p pos i own rest None (none_run p pos i own rest h e) h)
 fault_fails p pos bytes g (other_option w rest is e1 e2 e3 h) = record { first = 35; others = w ++ rest; is = is; read = front_option p pos w rest false e1 e2 (no_option_reads (35 ∷ w) e3) h }
@@ -379,7 +377,7 @@ scan_past p Then r k {pos = pos} {bytes = bytes} (past own rest is piece more) =
 abbrev nothing_then : TokensEnd → Scanned
 nothing_then end = ([], end)
 
-ends : (p : Place) (end : TokensEnd) (pos : Position) (bytes : List ℕ) → EndsAs p end pos bytes → scan 0 p pos bytes ≡ ([], end)
+ends : (p : Place) (end : TokensEnd) (pos : Position) (bytes : List ℕ) → EndsAs end p pos bytes → scan 0 p pos bytes ≡ ([], end)
 unfolding scan
 ends p Clean pos bytes h = rw h refl
 ends p (Bad fault) pos bytes h =
@@ -387,8 +385,8 @@ ends p (Bad fault) pos bytes h =
     ap (scan 0 p pos) s.is ∙ scan_fault p pos s.first s.others h.0 s.read ∙ ap (λ (x : LexFault). nothing_then (Bad x)) (sym h.2)
 
 -- the tokens that a text has, and how they end, are what is read
-pub complete : (ts : List Token) (end : TokensEnd) (p : Place) (pos : Position) (bytes : List ℕ) → Lexes p pos bytes ts end → scan 0 p pos bytes ≡ (ts, end)
-complete [] end p pos bytes h = scan_past p (EndsAs p end) ([], end) (λ q z e. ends p end q z e) h
+pub complete : (ts : List Token) (end : TokensEnd) (p : Place) (pos : Position) (bytes : List ℕ) → Lexes (EndsAs end) p pos bytes ts → scan 0 p pos bytes ≡ (ts, end)
+complete [] end p pos bytes h = scan_past p (EndsAs end p) ([], end) (λ q z e. ends p end q z e) h
 complete (t ∷ ts) end p pos bytes h =
     scan_past p _ (t ∷ ts, end) (λ q z e. one q z e.0 e.1 e.2 e.3 e.4 e.5 e.6 (complete ts end (place_after p t.kind) (position_after q e.0) e.1 e.7)) h where
       one : (q : Position) (z own rest : List ℕ) → z ≡ own ++ rest → SpellsToken p own rest t.kind → t.start ≡ q.at → t.stop ≡ q.at + length own → t.line ≡ q.line → scan 0 (place_after p t.kind) (position_after q own) rest ≡ (ts, end) → scan 0 p q z ≡ (t ∷ ts, end)

@@ -14,8 +14,8 @@ use Rattle.d_lexer.specs.declared.front.Front.{Front}
 use Rattle.d_lexer.specs.declared.front.Front.TheVariants as front
 use Rattle.d_lexer.specs.Places.{after_byte, position_after, place_after}
 use Rattle.d_lexer.specs.Faults.{on_line}
-use Rattle.d_lexer.specs.Tokens.{TokensEnd, Clean, Bad}
-use Rattle.d_lexer.specs.Steps.Scan.{scan, front_at, Gives, FitsFront, Scanned, with_first_token}
+use Rattle.d_lexer.specs.Steps.Scan.{TokensEnd, Clean, Bad, scan, front_at, Gives, FitsFront}
+use Rattle.d_lexer.specs.Steps.Scan.{Scanned, with_first_token}
 use Rattle.d_lexer.specs.Steps.Lexing.{with_tokens}
 use Rattle.d_lexer.proofs.Base.{Split}
 use Rattle.d_lexer.proofs.Sound.{FrontIs, front_sound}

@@ -11,7 +11,7 @@ use Rattle.d_lexer.specs.declared.token.Mark.{Mark}
 use Rattle.d_lexer.specs.declared.token.Mark.TheVariants as m
 use Rattle.d_lexer.specs.declared.place.Place.{Place}
 use Rattle.d_lexer.specs.declared.place.Place.TheVariants.{Head, Declaration, Predicate, Body}
-use Rattle.d_lexer.specs.Bytes.{entry_of}
+use Rattle.d_lexer.specs.Steps.Marks.{entry_of}
 use Rattle.d_lexer.specs.Marks.{marks_in, mark_of}
 use Rattle.d_lexer.specs.Steps.Marks.{singles, of_head, doubles, settings, shift_marks, arrows, mark_by}
 use Rattle.d_lexer.proofs.Base.{both_true, cond_is}

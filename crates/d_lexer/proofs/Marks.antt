@@ -5,9 +5,9 @@ use Rattle.std.proofs.lemmas.Bool.{eqb-true}
 use Rattle.d_lexer.specs.declared.token.Mark.{Mark}
 use Rattle.d_lexer.specs.declared.place.Place.{Place}
 use Rattle.d_lexer.specs.declared.place.Place.TheVariants.{Head, Declaration, Predicate, Body}
-use Rattle.d_lexer.specs.Bytes.{entry_of, is_blank_byte}
+use Rattle.d_lexer.specs.{Steps.Marks.entry_of, Bytes.is_blank_byte}
 use Rattle.d_lexer.specs.Steps.Marks.{mark_by, singles, of_head, doubles, settings, shift_marks, arrows}
-use Rattle.d_lexer.specs.Tokens.{IsMark, begins}
+use Rattle.d_lexer.specs.{Tokens.IsMark, Faults.begins}
 use Rattle.d_lexer.specs.Steps.Scan.{mark_at, with_length}
 use Rattle.d_lexer.specs.Marks.{mark_of}
 use Rattle.d_lexer.proofs.MarkTables.{mark_found, mark_walked}

@@ -6,16 +6,95 @@ use Rattle.std.proofs.Math.Nat.{pow-zero, pow-suc, add-mul, mul_assoc, mul_comm,
 use Rattle.std.proofs.Math.Nat.{le-mul_of_pos_right}
 use Rattle.std.proofs.lemmas.Bool.{eqb-true}
 use Rattle.std.proofs.lemmas.Bool.Decides.{nat_tests}
-use Rattle.std.specs.Prelude.{option_and_then, nat_le}
-use Rattle.std.specs.Char.{is_ascii_digit}
+use Rattle.std.specs.Prelude.{option_and_then}
+use Rattle.std.specs.Char.{is_ascii_digit, is_digit, digit_value, to_ascii_lowercase}
+use Rattle.std.specs.Char.{eq_ignore_ascii_case}
 use Rattle.d_lexer.specs.declared.token.Suffix.{Suffix}
 use Rattle.d_lexer.specs.declared.token.Suffix.TheVariants.{Absent, Unsigned, Long, UnsignedLong}
-use Rattle.d_lexer.specs.Numbers.{digit_of, digit_below, is_u, is_l, suffix_of, is_x}
-use Rattle.d_lexer.specs.Numbers.{DigitsStandFor, IsBase}
-use Rattle.d_lexer.specs.Numbers.{hexadecimal, octal, decimal, IsIntegerConstant, IsNoNumber}
-use Rattle.d_lexer.specs.Steps.Numbers.{with_suffix, number_by, number_from, hex_by, zero_from}
-use Rattle.d_lexer.specs.Steps.Numbers.{number_spelled}
+use Rattle.d_lexer.specs.Numbers.{suffix_of, DigitsStandFor, IsBase}
+use Rattle.d_lexer.specs.Numbers.{hexadecimal, octal, decimal, IsIntegerConstant}
+use Rattle.d_lexer.specs.Steps.Numbers.{digit_of, is_u, is_l, is_x, suffix_by_letters, with_suffix}
+use Rattle.d_lexer.specs.Steps.Numbers.{number_by, number_from, hex_by, zero_from, number_spelled}
 use Rattle.d_lexer.proofs.Base.{cond_is}
+
+-- ---- letters and digits by the tables
+
+lower_is : (c low up : ℕ) → 97 ≤ low → low ≤ 122 → up + 32 ≡ low → eqb (to_ascii_lowercase c) low ≡ (eqb c low || eqb c up)
+lower_is c low up from to e = by (nat_lt c 65) (nat_lt c 91) refl refl where
+  by : (a b : Bool) → nat_lt c 65 ≡ a → nat_lt c 91 ≡ b → eqb (cond a c (cond b (c + 32) c)) low ≡ (eqb c low || eqb c up)
+  by true b ea eb = grind (arith, nat_tests)
+  by false true ea eb = grind (arith, nat_tests)
+  by false false ea eb = grind (arith, nat_tests)
+
+u_is : (c : ℕ) → eqb (to_ascii_lowercase c) 117 ≡ is_u c
+u_is c = lower_is c 117 85 (lit≤ tt) (lit≤ tt) refl
+
+l_is : (c : ℕ) → eqb (to_ascii_lowercase c) 108 ≡ is_l c
+l_is c = lower_is c 108 76 (lit≤ tt) (lit≤ tt) refl
+
+x_is : (c : ℕ) → eq_ignore_ascii_case c 120 ≡ is_x c
+x_is c = lower_is c 120 88 (lit≤ tt) (lit≤ tt) refl
+
+suffix_is : (z : List ℕ) → suffix_of z ≡ suffix_by_letters z
+unfolding suffix_of suffix_by_letters
+suffix_is [] = refl
+suffix_is (a ∷ []) = by (eqb (to_ascii_lowercase a) 117) (eqb (to_ascii_lowercase a) 108) (is_u a) (is_l a) (u_is a) (l_is a) where
+  same : (u l : Bool) → cond (u && true) (Some Unsigned) (cond (l && true) (Some Long) (cond (u && false) (Some UnsignedLong) (cond (l && false) (Some Long) (cond (u && false) (Some UnsignedLong) None)))) ≡ cond u (Some Unsigned) (cond l (Some Long) None)
+  same true l = refl
+  same false true = refl
+  same false false = refl
+
+  by : (x y u l : Bool) → x ≡ u → y ≡ l → cond (x && true) (Some Unsigned) (cond (y && true) (Some Long) (cond (x && false) (Some UnsignedLong) (cond (y && false) (Some Long) (cond (x && false) (Some UnsignedLong) None)))) ≡ cond u (Some Unsigned) (cond l (Some Long) None)
+  by x y u l e f = rw (e, f) (same u l)
+suffix_is (a ∷ b ∷ []) = by (eqb (to_ascii_lowercase a) 117) (eqb (to_ascii_lowercase a) 108) (eqb (to_ascii_lowercase b) 108) (is_u a) (is_l a) (is_l b) (u_is a) (l_is a) (l_is b) where
+  same : (u l k : Bool) → cond (u && false) (Some Unsigned) (cond (l && false) (Some Long) (cond (u && (k && true)) (Some UnsignedLong) (cond (l && (k && true)) (Some Long) (cond (u && (k && false)) (Some UnsignedLong) None)))) ≡ cond (u && k) (Some UnsignedLong) (cond (l && k) (Some Long) None)
+  same true true true = refl
+  same true true false = refl
+  same true false true = refl
+  same true false false = refl
+  same false true true = refl
+  same false true false = refl
+  same false false k = refl
+
+  by : (x y z u l k : Bool) → x ≡ u → y ≡ l → z ≡ k
+      → cond (x && false) (Some Unsigned) (cond (y && false) (Some Long) (cond (x && (z && true)) (Some UnsignedLong) (cond (y && (z && true)) (Some Long) (cond (x && (z && false)) (Some UnsignedLong) None)))) ≡ cond (u && k) (Some UnsignedLong) (cond (l && k) (Some Long) None)
+  by x y z u l k e f g = rw (e, f, g) (same u l k)
+suffix_is (a ∷ b ∷ c ∷ []) = by (eqb (to_ascii_lowercase a) 117) (eqb (to_ascii_lowercase a) 108) (eqb (to_ascii_lowercase b) 108) (eqb (to_ascii_lowercase c) 108) (is_u a) (is_l b) (is_l c) (u_is a) (l_is b) (l_is c) where
+  same : (u y k j : Bool) → cond (u && false) (Some Unsigned) (cond (y && false) (Some Long) (cond (u && (k && false)) (Some UnsignedLong) (cond (y && (k && false)) (Some Long) (cond (u && (k && (j && true))) (Some UnsignedLong) None)))) ≡ cond (u && k && j) (Some UnsignedLong) None
+  same true true true true = refl
+  same true true true false = refl
+  same true true false j = refl
+  same true false true true = refl
+  same true false true false = refl
+  same true false false j = refl
+  same false true true j = refl
+  same false true false j = refl
+  same false false k j = refl
+
+  by : (x y z w u k j : Bool) → x ≡ u → z ≡ k → w ≡ j
+      → cond (x && false) (Some Unsigned) (cond (y && false) (Some Long) (cond (x && (z && false)) (Some UnsignedLong) (cond (y && (z && false)) (Some Long) (cond (x && (z && (w && true))) (Some UnsignedLong) None)))) ≡ cond (u && k && j) (Some UnsignedLong) None
+  by x y z w u k j e f g = rw (e, f, g) (same u y k j)
+suffix_is (a ∷ b ∷ c ∷ d ∷ z) = by (eqb (to_ascii_lowercase a) 117) (eqb (to_ascii_lowercase a) 108) (eqb (to_ascii_lowercase b) 108) (eqb (to_ascii_lowercase c) 108) where
+  by : (x y k j : Bool) → cond (x && false) (Some Unsigned) (cond (y && false) (Some Long) (cond (x && (k && false)) (Some UnsignedLong) (cond (y && (k && false)) (Some Long) (cond (x && (k && (j && false))) (Some UnsignedLong) None)))) ≡ None
+  by true true true true = refl
+  by true true true false = refl
+  by true true false j = refl
+  by true false true true = refl
+  by true false true false = refl
+  by true false false j = refl
+  by false true true j = refl
+  by false true false j = refl
+  by false false k j = refl
+
+digit_is : (base d k : ℕ) → digit_of base d ≡ Some k → (is_digit d base ≡ true) × (k ≡ digit_value d)
+digit_is base d k e =
+    cond_is (λ (o : Option ℕ). o ≡ Some k → (is_digit d base ≡ true) × (k ≡ digit_value d)) (is_digit d base) (Some (digit_value d)) None
+    (λ is f. (is, cc))
+    (λ _ f. absurd cc)
+    e
+
+digit_as : (base d : ℕ) → is_digit d base ≡ true → digit_of base d ≡ Some (digit_value d)
+digit_as base d e = rw e refl
 
 -- one digit more, after a first part
 horner : (a base k p m : ℕ) → (a * base + k) * p + m ≡ a * (p * base) + (k * p + m)
@@ -35,7 +114,7 @@ record ReadAs (base acc : ℕ) (z : List ℕ) (n : ℕ) (s : Suffix) : Type 0 wh
   value : DigitsStandFor base digits own
   whole : n ≡ acc * base ^ length digits + own
   fits : n < 2 ^ 64
-  suffix : suffix_of later ≡ Some s
+  suffix : suffix_by_letters later ≡ Some s
 
 one_power : (base acc : ℕ) → acc ≡ acc * base ^ 0 + 0
 one_power base acc = rw (pow-zero base) (omega arith)
@@ -49,9 +128,9 @@ pair n s = (n, s)
 same_parts : (a b : ℕ) (t s : Suffix) → Some (pair a t) ≡ Some (pair b s) → (a ≡ b) × (t ≡ s)
 same_parts a b t s e = let both : pair a t ≡ pair b s = cc in (ap (λ (x : ℕ × Suffix). x.0) both, ap (λ (x : ℕ × Suffix). x.1) both)
 
-read_none : (base acc : ℕ) (z : List ℕ) (n : ℕ) (s : Suffix) → acc < 2 ^ 64 → with_suffix acc (suffix_of z) ≡ Some (n, s) → ReadAs base acc z n s
-read_none base acc z n s low e = by (suffix_of z) refl e where
-  by : (o : Option Suffix) → suffix_of z ≡ o → with_suffix acc o ≡ Some (n, s) → ReadAs base acc z n s
+read_none : (base acc : ℕ) (z : List ℕ) (n : ℕ) (s : Suffix) → acc < 2 ^ 64 → with_suffix acc (suffix_by_letters z) ≡ Some (n, s) → ReadAs base acc z n s
+read_none base acc z n s low e = by (suffix_by_letters z) refl e where
+  by : (o : Option Suffix) → suffix_by_letters z ≡ o → with_suffix acc o ≡ Some (n, s) → ReadAs base acc z n s
   by None o_is e = absurd cc
   by (Some t) o_is e =
       let same = same_parts acc n t s e in
@@ -62,12 +141,13 @@ read_more : (base acc d k : ℕ) (ds : List ℕ) (n : ℕ) (s : Suffix) → digi
 read_more base acc d k ds n s dk r =
     let p = base ^ length r.digits in
     let e : base ^ suc (length r.digits) ≡ p * base = pow-suc base (length r.digits) in
+    let digit = digit_is base d k dk in
     record {
       digits = d ∷ r.digits;
       later = r.later;
       own = k * p + r.own;
       is = ap (λ (xs : List ℕ). d ∷ xs) r.is;
-      value = (k, r.own, dk, r.value, refl);
+      value = (r.own, digit.0, r.value, ap (λ (x : ℕ). x * p + r.own) digit.1);
       whole = r.whole ∙ horner acc base k p r.own ∙ ap (λ (x : ℕ). acc * x + (k * p + r.own)) (sym e);
       fits = r.fits;
       suffix = r.suffix;
@@ -83,14 +163,14 @@ read_by base acc d ds n s low go (Some k) dk e =
     e
 
 read_is : (base acc : ℕ) (z : List ℕ) (n : ℕ) (s : Suffix) → acc < 2 ^ 64 → number_from base acc z ≡ Some (n, s) → ReadAs base acc z n s
-unfolding number_from suffix_of
+unfolding number_from suffix_by_letters
 read_is base acc [] n s low e = read_none base acc [] n s low e
 read_is base acc (d ∷ ds) n s low e = read_by base acc d ds n s low (λ k h f. read_is base k ds n s h f) (digit_of base d) refl e
 
 -- ---- no digit begins a suffix
 
-suffix_letter : (a : ℕ) (z : List ℕ) (s : Suffix) → suffix_of (a ∷ z) ≡ Some s → (is_u a || is_l a) ≡ true
-unfolding suffix_of
+suffix_letter : (a : ℕ) (z : List ℕ) (s : Suffix) → suffix_by_letters (a ∷ z) ≡ Some s → (is_u a || is_l a) ≡ true
+unfolding suffix_by_letters
 suffix_letter a [] s e = by (is_u a) (is_l a) e where
   by : (u l : Bool) → cond u (Some Unsigned) (cond l (Some Long) None) ≡ Some s → (u || l) ≡ true
   by true l e = refl
@@ -107,12 +187,23 @@ suffix_letter a (b ∷ c ∷ []) s e = by (is_u a) (is_l a) (is_l b) (is_l c) e 
   by false l k j e = absurd cc
 suffix_letter a (b ∷ c ∷ d ∷ z) s e = absurd cc
 
-no_digit : (base a : ℕ) → (is_u a || is_l a) ≡ true → digit_of base a ≡ None
-no_digit base a h =
-    let e1 : (nat_le 48 a && nat_le a 57) ≡ false = grind (arith, nat_tests) in
-    let e2 : (nat_le 97 a && nat_le a 102) ≡ false = grind (arith, nat_tests) in
-    let e3 : (nat_le 65 a && nat_le a 70) ≡ false = grind (arith, nat_tests) in
-    rw (e1, e2, e3) refl
+letter_high : (a : ℕ) → (is_u a || is_l a) ≡ true → 16 ≤ digit_value a
+letter_high a h = by (eqb a 117) (eqb a 85) (eqb a 108) (eqb a 76) refl refl refl refl h where
+  by : (p q r s : Bool) → eqb a 117 ≡ p → eqb a 85 ≡ q → eqb a 108 ≡ r → eqb a 76 ≡ s → ((p || q) || (r || s)) ≡ true → 16 ≤ digit_value a
+  by true q r s ep eq er es e = let is : a ≡ 117 = eqb-true a 117 ep in rw is (lit≤ tt)
+  by false true r s ep eq er es e = let is : a ≡ 85 = eqb-true a 85 eq in rw is (lit≤ tt)
+  by false false true s ep eq er es e = let is : a ≡ 108 = eqb-true a 108 er in rw is (lit≤ tt)
+  by false false false true ep eq er es e = let is : a ≡ 76 = eqb-true a 76 es in rw is (lit≤ tt)
+  by false false false false ep eq er es e = absurd cc
+
+not_below : (v base : ℕ) → base ≤ v → nat_lt v base ≡ false
+not_below v base h = grind (arith, nat_tests)
+
+no_digit : (base a : ℕ) → base ≤ 16 → (is_u a || is_l a) ≡ true → digit_of base a ≡ None
+no_digit base a small h =
+    let high = letter_high a h in
+    let e : is_digit a base ≡ false = not_below (digit_value a) base (omega (arith, high)) in
+    rw e refl
 
 some_none : (o : Option ℕ) (k : ℕ) → o ≡ Some k → o ≡ None → ⊥
 some_none o k e f = cc
@@ -122,7 +213,7 @@ some_none o k e f = cc
 hex_is : (x d k : ℕ) (z : List ℕ) (n : ℕ) (s : Suffix) → is_x x ≡ true → digit_of 16 d ≡ Some k → ReadAs 16 0 (d ∷ z) n s → IsIntegerConstant (48 ∷ (x ∷ (d ∷ z))) n s
 hex_is x d k z n s is dk r = by r.digits r.is r.value r.whole where
   by : (digits : List ℕ) → (d ∷ z) ≡ digits ++ r.later → DigitsStandFor 16 digits r.own → n ≡ 0 * 16 ^ length digits + r.own → IsIntegerConstant (48 ∷ (x ∷ (d ∷ z))) n s
-  by [] cut value whole = absurd (some_none (digit_of 16 d) k dk (no_digit 16 d (suffix_letter d z s (ap suffix_of cut ∙ r.suffix))))
+  by [] cut value whole = absurd (some_none (digit_of 16 d) k dk (no_digit 16 d (lit≤ tt) (suffix_letter d z s (ap suffix_by_letters cut ∙ r.suffix))))
   by (e ∷ digits) cut value whole =
       let n_is : n ≡ r.own = whole ∙ no_first (16 ^ length (e ∷ digits)) r.own in
       record {
@@ -131,10 +222,10 @@ hex_is x d k z n s is dk r = by r.digits r.is r.value r.whole where
         digits = e ∷ digits;
         later = r.later;
         is = ap (λ (xs : List ℕ). 48 ∷ (x ∷ xs)) cut;
-        stated = hexadecimal x e digits refl refl is refl;
+        stated = hexadecimal x e digits refl refl (x_is x ∙ is) refl;
         value = subst (DigitsStandFor 16 (e ∷ digits)) (sym n_is) value;
         fits = r.fits;
-        suffix = r.suffix;
+        suffix = suffix_is r.later ∙ r.suffix;
       }
 
 octal_is : (z : List ℕ) (n : ℕ) (s : Suffix) → ReadAs 8 0 z n s → IsIntegerConstant (48 ∷ z) n s
@@ -146,12 +237,12 @@ octal_is z n s r =
       later = r.later;
       is = ap (λ (xs : List ℕ). 48 ∷ xs) r.is;
       stated = octal r.digits refl refl refl;
-      value = (0, r.own, refl, r.value, r.whole);
+      value = (r.own, refl, r.value, r.whole);
       fits = r.fits;
-      suffix = r.suffix;
+      suffix = suffix_is r.later ∙ r.suffix;
     }
 
-decimal_is : (d : ℕ) (z : List ℕ) (n : ℕ) (s : Suffix) → d ≢ 48 → digit_of 10 d ≡ Some (d - 48) → ReadAs 10 (d - 48) z n s → IsIntegerConstant (d ∷ z) n s
+decimal_is : (d : ℕ) (z : List ℕ) (n : ℕ) (s : Suffix) → d ≢ 48 → (is_digit d 10 ≡ true) × (digit_value d ≡ d - 48) → ReadAs 10 (d - 48) z n s → IsIntegerConstant (d ∷ z) n s
 decimal_is d z n s other dk r =
     record {
       base = 10;
@@ -160,9 +251,9 @@ decimal_is d z n s other dk r =
       later = r.later;
       is = ap (λ (xs : List ℕ). d ∷ xs) r.is;
       stated = decimal d r.digits refl refl refl other;
-      value = (d - 48, r.own, dk, r.value, r.whole);
+      value = (r.own, dk.0, r.value, r.whole ∙ ap (λ (k : ℕ). k * 10 ^ length r.digits + r.own) (sym dk.1));
       fits = r.fits;
-      suffix = r.suffix;
+      suffix = suffix_is r.later ∙ r.suffix;
     }
 
 hex_by_is : (x d : ℕ) (z : List ℕ) (n : ℕ) (s : Suffix) → is_x x ≡ true → (o : Option ℕ) → digit_of 16 d ≡ o → hex_by (d ∷ z) o ≡ Some (n, s) → IsIntegerConstant (48 ∷ (x ∷ (d ∷ z))) n s
@@ -183,11 +274,12 @@ zero_is (c ∷ d ∷ z) n s e =
     (λ _ f. octal_is (c ∷ (d ∷ z)) n s (read_is 8 0 (c ∷ (d ∷ z)) n s (lit< tt) f))
     e
 
-ten_digit : (b : ℕ) → is_ascii_digit b ≡ true → digit_of 10 b ≡ Some (b - 48)
+ten_digit : (b : ℕ) → is_ascii_digit b ≡ true → (is_digit b 10 ≡ true) × (digit_value b ≡ b - 48)
 ten_digit b digit =
-    let e1 : (nat_le 48 b && nat_le b 57) ≡ true = grind (arith, nat_tests) in
-    let e2 : nat_lt (b - 48) 10 ≡ true = grind (arith, nat_tests) in
-    rw (e1, e2) refl
+    let e1 : nat_lt b 48 ≡ false = grind (arith, nat_tests) in
+    let e2 : nat_lt b 58 ≡ true = grind (arith, nat_tests) in
+    let e3 : nat_lt (b - 48) 10 ≡ true = grind (arith, nat_tests) in
+    (rw (e1, e2) e3, rw (e1, e2) refl)
 
 -- what is read of a run that begins with a digit is its number
 pub number_is : (b : ℕ) (z : List ℕ) (n : ℕ) (s : Suffix) → is_ascii_digit b ≡ true → number_spelled (b ∷ z) ≡ Some (n, s) → IsIntegerConstant (b ∷ z) n s
@@ -210,51 +302,51 @@ first_part base acc k p m n positive n_is low =
     let le : acc * base + k ≤ (acc * base + k) * p = le-mul_of_pos_right (acc * base + k) positive in
     omega (arith, le, whole)
 
-stands_read : (base acc : ℕ) (digits later : List ℕ) (m n : ℕ) (s : Suffix) → 0 < base → DigitsStandFor base digits m → suffix_of later ≡ Some s → n ≡ acc * base ^ length digits + m → n < 2 ^ 64 →
+stands_read : (base acc : ℕ) (digits later : List ℕ) (m n : ℕ) (s : Suffix) → 0 < base → base ≤ 16 → DigitsStandFor base digits m → suffix_by_letters later ≡ Some s → n ≡ acc * base ^ length digits + m → n < 2 ^ 64 →
     number_from base acc (digits ++ later) ≡ Some (n, s)
-unfolding number_from suffix_of
-stands_read base acc [] [] m n s positive value tail n_is low =
+unfolding number_from suffix_by_letters
+stands_read base acc [] [] m n s positive small value tail n_is low =
     let e : acc ≡ n = one_power base acc ∙ ap (λ (x : ℕ). acc * base ^ 0 + x) (sym value) ∙ sym n_is in
     let f : Absent ≡ s = cc in
     rw (e, f) refl
-stands_read base acc [] (b ∷ z) m n s positive value tail n_is low =
+stands_read base acc [] (b ∷ z) m n s positive small value tail n_is low =
     let e : acc ≡ n = one_power base acc ∙ ap (λ (x : ℕ). acc * base ^ 0 + x) (sym value) ∙ sym n_is in
-    let none : digit_of base b ≡ None = no_digit base b (suffix_letter b z s tail) in
+    let none : digit_of base b ≡ None = no_digit base b small (suffix_letter b z s tail) in
     rw none (rw (tail, e) refl)
-stands_read base acc (d ∷ digits) later m n s positive value tail n_is low =
-    let k : ℕ = value.0 in
+stands_read base acc (d ∷ digits) later m n s positive small value tail n_is low =
+    let k : ℕ = digit_value d in
     let p = base ^ length digits in
-    let whole : n ≡ acc * (p * base) + (k * p + value.1) = n_is ∙ ap (λ (x : ℕ). acc * x + m) (pow-suc base (length digits)) ∙ ap (λ (x : ℕ). acc * (p * base) + x) value.4 in
-    let part : acc * base + k < 2 ^ 64 = first_part base acc k p value.1 n (one-le-pow (length digits) base positive) whole low in
+    let whole : n ≡ acc * (p * base) + (k * p + value.0) = n_is ∙ ap (λ (x : ℕ). acc * x + m) (pow-suc base (length digits)) ∙ ap (λ (x : ℕ). acc * (p * base) + x) value.3 in
+    let part : acc * base + k < 2 ^ 64 = first_part base acc k p value.0 n (one-le-pow (length digits) base positive) whole low in
     let below : nat_lt (acc * base + k) (2 ^ 64) ≡ true = grind (arith, nat_tests) in
-    let dk = value.2 in
-    let more : number_from base (acc * base + k) (digits ++ later) ≡ Some (n, s) = stands_read base (acc * base + k) digits later value.1 n s positive value.3 tail (whole ∙ sym (horner acc base k p value.1)) low in
+    let dk : digit_of base d ≡ Some k = digit_as base d value.1 in
+    let more : number_from base (acc * base + k) (digits ++ later) ≡ Some (n, s) = stands_read base (acc * base + k) digits later value.0 n s positive small value.2 tail (whole ∙ sym (horner acc base k p value.0)) low in
     rw (dk, below) more
 
 -- a digit of a base up to ten is an ASCII digit less 48
-plain_digit : (base d k : ℕ) → base ≤ 10 → digit_of base d ≡ Some k → (is_ascii_digit d ≡ true) × (k ≡ d - 48)
-plain_digit base d k small e = by (nat_le 48 d && nat_le d 57) (nat_le 97 d && nat_le d 102) (nat_le 65 d && nat_le d 70) refl refl refl e where
-  high : (v : ℕ) → 10 ≤ v → digit_below base (Some v) ≡ Some k → ⊥
-  high v ten f = cond_is (λ (o : Option ℕ). o ≡ Some k → ⊥) (nat_lt v base) (Some v) None (λ low _. absurd (grind (arith, nat_tests))) (λ _ g. cc) f
+plain_digit : (base d : ℕ) → base ≤ 10 → is_digit d base ≡ true → (is_ascii_digit d ≡ true) × (digit_value d ≡ d - 48)
+plain_digit base d small h = by (nat_lt d 48) (nat_lt d 58) (nat_lt d 65) (nat_lt d 91) (nat_lt d 97) (nat_lt d 123) refl refl refl refl refl refl h where
+  high : (v : ℕ) → 10 ≤ v → nat_lt v base ≡ true → ⊥
+  high v ten f = absurd (grind (arith, nat_tests))
 
-  low_digit : (v : ℕ) → digit_below base (Some v) ≡ Some k → k ≡ v
-  low_digit v f = cond_is (λ (o : Option ℕ). o ≡ Some k → k ≡ v) (nat_lt v base) (Some v) None (λ _ g. cc) (λ _ g. absurd cc) f
-
-  by : (x y z : Bool) → (nat_le 48 d && nat_le d 57) ≡ x → (nat_le 97 d && nat_le d 102) ≡ y → (nat_le 65 d && nat_le d 70) ≡ z →
-      digit_below base (cond x (Some (d - 48)) (cond y (Some (d - 87)) (cond z (Some (d - 55)) None))) ≡ Some k → (is_ascii_digit d ≡ true) × (k ≡ d - 48)
-  by true y z ex ey ez f = (grind (arith, nat_tests), low_digit (d - 48) f)
-  by false true z ex ey ez f = absurd (high (d - 87) (grind (arith, nat_tests)) f)
-  by false false true ex ey ez f = absurd (high (d - 55) (grind (arith, nat_tests)) f)
-  by false false false ex ey ez f = absurd cc
+  by : (a b c e f g : Bool) → nat_lt d 48 ≡ a → nat_lt d 58 ≡ b → nat_lt d 65 ≡ c → nat_lt d 91 ≡ e → nat_lt d 97 ≡ f → nat_lt d 123 ≡ g →
+      nat_lt (cond a 36 (cond b (d - 48) (cond c 36 (cond e (d - 55) (cond f 36 (cond g (d - 87) 36)))))) base ≡ true → (is_ascii_digit d ≡ true) × (cond a 36 (cond b (d - 48) (cond c 36 (cond e (d - 55) (cond f 36 (cond g (d - 87) 36))))) ≡ d - 48)
+  by true b c e f g ea eb ec ee ef eg t = absurd (high 36 (lit≤ tt) t)
+  by false true c e f g ea eb ec ee ef eg t = (grind (arith, nat_tests), refl)
+  by false false true e f g ea eb ec ee ef eg t = absurd (high 36 (lit≤ tt) t)
+  by false false false true f g ea eb ec ee ef eg t = absurd (high (d - 55) (grind (arith, nat_tests)) t)
+  by false false false false true g ea eb ec ee ef eg t = absurd (high 36 (lit≤ tt) t)
+  by false false false false false true ea eb ec ee ef eg t = absurd (high (d - 87) (grind (arith, nat_tests)) t)
+  by false false false false false false ea eb ec ee ef eg t = absurd (high 36 (lit≤ tt) t)
 
 octal_first : (c : ℕ) (z : List ℕ) → is_x c ≡ false → zero_from (c ∷ z) ≡ number_from 8 0 (c ∷ z)
 octal_first c z e = rw e refl
 
-zero_octal : (ds later : List ℕ) (m : ℕ) (s : Suffix) → DigitsStandFor 8 ds m → suffix_of later ≡ Some s → zero_from (ds ++ later) ≡ number_from 8 0 (ds ++ later)
+zero_octal : (ds later : List ℕ) (m : ℕ) (s : Suffix) → DigitsStandFor 8 ds m → suffix_by_letters later ≡ Some s → zero_from (ds ++ later) ≡ number_from 8 0 (ds ++ later)
 unfolding number_from
 zero_octal [] [] m s value tail = refl
 zero_octal [] (b ∷ z) m s value tail = let letter = suffix_letter b z s tail in octal_first b z (grind (arith, nat_tests))
-zero_octal (d ∷ ds) later m s value tail = let digit = (plain_digit 8 d value.0 (lit≤ tt) value.2).0 in octal_first d (ds ++ later) (grind (arith, nat_tests))
+zero_octal (d ∷ ds) later m s value tail = let digit = (plain_digit 8 d (lit≤ tt) value.1).0 in octal_first d (ds ++ later) (grind (arith, nat_tests))
 
 hex_first : (x d k : ℕ) (z : List ℕ) → is_x x ≡ true → digit_of 16 d ≡ Some k → number_spelled (48 ∷ (x ∷ (d ∷ z))) ≡ number_from 16 0 (d ∷ z)
 unfolding number_spelled
@@ -273,27 +365,30 @@ later_zero x n = sym (no_first x n)
 
 -- a number is what is read
 pub number_reads : (own : List ℕ) (n : ℕ) (s : Suffix) → IsIntegerConstant own n s → number_spelled own ≡ Some (n, s)
-number_reads own n s h = by h.base h.before h.digits h.stated h.is h.value where
-  by : (base : ℕ) (before digits : List ℕ) → IsBase base before digits → own ≡ before ++ (digits ++ h.later) → DigitsStandFor base digits n → number_spelled own ≡ Some (n, s)
-  by base before digits (hexadecimal x d ds b_is before_is x_is digits_is) is value =
+number_reads own n s h = let tail : suffix_by_letters h.later ≡ Some s = sym (suffix_is h.later) ∙ h.suffix in by tail h.base h.before h.digits h.stated h.is h.value where
+  by : suffix_by_letters h.later ≡ Some s → (base : ℕ) (before digits : List ℕ) → IsBase base before digits → own ≡ before ++ (digits ++ h.later) → DigitsStandFor base digits n → number_spelled own ≡ Some (n, s)
+  by tail base before digits (hexadecimal x d ds b_is before_is is_x_either digits_is) is value =
       let v : DigitsStandFor 16 (d ∷ ds) n = subst (λ (xs : List ℕ). DigitsStandFor 16 xs n) digits_is (subst (λ (b : ℕ). DigitsStandFor b digits n) b_is value) in
       let own_is : own ≡ 48 ∷ (x ∷ (d ∷ (ds ++ h.later))) = rw (digits_is, before_is) at is in
-      let dk = v.2 in
-      ap number_spelled own_is ∙ hex_first x d v.0 (ds ++ h.later) x_is dk
-      ∙ stands_read 16 0 (d ∷ ds) h.later n n s (lit< tt) v h.suffix (later_zero (16 ^ length (d ∷ ds)) n) h.fits
-  by base before digits (octal ds b_is before_is digits_is) is value =
+      let dk = digit_as 16 d v.1 in
+      ap number_spelled own_is ∙ hex_first x d (digit_value d) (ds ++ h.later) (sym (x_is x) ∙ is_x_either) dk
+      ∙ stands_read 16 0 (d ∷ ds) h.later n n s (lit< tt) (lit≤ tt) v tail (later_zero (16 ^ length (d ∷ ds)) n) h.fits
+  by tail base before digits (octal ds b_is before_is digits_is) is value =
       let v : DigitsStandFor 8 (48 ∷ ds) n = subst (λ (xs : List ℕ). DigitsStandFor 8 xs n) digits_is (subst (λ (b : ℕ). DigitsStandFor b digits n) b_is value) in
       let own_is : own ≡ 48 ∷ (ds ++ h.later) = rw (digits_is, before_is) at is in
-      let no_more : v.0 ≡ 0 = let e = v.2 in cc in
-      ap number_spelled own_is ∙ zero_first (ds ++ h.later) ∙ zero_octal ds h.later v.1 s v.3 h.suffix
-      ∙ stands_read 8 0 ds h.later v.1 n s (lit< tt) v.3 h.suffix (v.4 ∙ ap (λ (k : ℕ). k * 8 ^ length ds + v.1) no_more) h.fits
-  by base before digits (decimal d ds b_is before_is digits_is other) is value =
+      ap number_spelled own_is ∙ zero_first (ds ++ h.later) ∙ zero_octal ds h.later v.0 s v.2 tail
+      ∙ stands_read 8 0 ds h.later v.0 n s (lit< tt) (lit≤ tt) v.2 tail v.3 h.fits
+  by tail base before digits (decimal d ds b_is before_is digits_is other) is value =
       let v : DigitsStandFor 10 (d ∷ ds) n = subst (λ (xs : List ℕ). DigitsStandFor 10 xs n) digits_is (subst (λ (b : ℕ). DigitsStandFor b digits n) b_is value) in
       let own_is : own ≡ d ∷ (ds ++ h.later) = rw (digits_is, before_is) at is in
-      let digit = plain_digit 10 d v.0 (lit≤ tt) v.2 in
+      let digit = plain_digit 10 d (lit≤ tt) v.1 in
       let not_zero : eqb d 48 ≡ false = grind (arith, nat_tests) in
       ap number_spelled own_is ∙ decimal_first d (ds ++ h.later) not_zero
-      ∙ stands_read 10 (d - 48) ds h.later v.1 n s (lit< tt) v.3 h.suffix (v.4 ∙ ap (λ (k : ℕ). k * 10 ^ length ds + v.1) digit.1) h.fits
+      ∙ stands_read 10 (d - 48) ds h.later v.0 n s (lit< tt) (lit≤ tt) v.2 tail (v.3 ∙ ap (λ (k : ℕ). k * 10 ^ length ds + v.0) digit.1) h.fits
+
+-- the bytes stand for no number
+abbrev pub IsNoNumber : List ℕ → Type 0
+IsNoNumber own = (n : ℕ) (s : Suffix) → ¬ IsIntegerConstant own n s
 
 -- a run that is no number is read as none
 pub none_is : (b : ℕ) (z : List ℕ) → is_ascii_digit b ≡ true → number_spelled (b ∷ z) ≡ None → IsNoNumber (b ∷ z)

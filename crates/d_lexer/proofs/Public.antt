@@ -14,11 +14,11 @@ use Rattle.d_lexer.specs.Faults.{on_line}
 use Rattle.d_lexer.specs.declared.fault.LexFault.{LexFault}
 use Rattle.d_lexer.specs.declared.fault.LexFault.TheVariants as faults
 use Rattle.d_lexer.specs.Places.{first_position, after_byte, place_after}
-use Rattle.d_lexer.specs.Tokens.{TokensEnd, Clean, Bad, Lexes}
-use Rattle.d_lexer.specs.Steps.Scan.{Scanned, scan, scan_by, front_at}
+use Rattle.d_lexer.specs.Tokens.{Lexes}
+use Rattle.d_lexer.specs.Steps.Scan.{Scanned, TokensEnd, Clean, Bad, scan, scan_by, front_at}
 use Rattle.d_lexer.specs.Lexing.{settle, AreTokens, IsFirstFault, IsLexed, IsRefused, HasOne}
 use Rattle.d_lexer.specs.Steps.Lexing.{Stops, Lexed}
-use Rattle.d_lexer.proofs.Sound.{whole_sound}
+use Rattle.d_lexer.proofs.{Base.EndsAs, Sound.whole_sound}
 use Rattle.d_lexer.specs.Small.{HaveSmallNumbers}
 use Rattle.d_lexer.proofs.Complete.{complete}
 use Rattle.d_lexer.proofs.Small.{tokens_small}
@@ -26,8 +26,8 @@ use Rattle.d_lexer.proofs.Small.{tokens_small}
 abbrev Read : List ℕ → Scanned
 Read bytes = scan 0 Head first_position bytes
 
-ends_as : (bytes : List ℕ) (end : TokensEnd) → (Read bytes).1 ≡ end → Lexes Head first_position bytes (Read bytes).0 end
-ends_as bytes end e = subst (λ (x : TokensEnd). Lexes Head first_position bytes (Read bytes).0 x) e (whole_sound Head first_position bytes)
+ends_as : (bytes : List ℕ) (end : TokensEnd) → (Read bytes).1 ≡ end → Lexes (EndsAs end) Head first_position bytes (Read bytes).0
+ends_as bytes end e = subst (λ (x : TokensEnd). Lexes (EndsAs x) Head first_position bytes (Read bytes).0) e (whole_sound Head first_position bytes)
 
 clean_bad : (e : TokensEnd) (g : LexFault) → e ≡ Clean → e ≡ Bad g → ⊥
 clean_bad e g a b = cc

@@ -3,7 +3,8 @@ use Rattle.std.proofs.Common.{◌≡◌, ℕ, zero, suc, ◌<◌, ◌≤◌, Boo
 use Rattle.std.proofs.Common.{sym, ap, ◌∙◌, arith}
 use Rattle.std.specs.Prelude.{slice_index_or, slice_set}
 use Rattle.d_lexer.specs.declared.token.Token.{Token}
-use Rattle.d_lexer.specs.Lexing.{settle, settle_token, is_brace, opens_body}
+use Rattle.d_lexer.specs.Lexing.{settle, is_brace, opens_body}
+use Rattle.d_lexer.specs.Steps.Lexing.{settle_token}
 
 -- whether the first of these tokens is an opening brace; where there are none the test says it
 abbrev opens_or : ℕ → Bool → List Token → Bool

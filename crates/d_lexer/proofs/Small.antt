@@ -1,5 +1,5 @@
 -- The numbers of a script's tokens are small.
-use Rattle.std.proofs.Common.{◌<◌, ◌^◌, ℕ, Bool, true, false, List, [], ◌∷◌, sym, subst}
+use Rattle.std.proofs.Common.{◌≡◌, ◌<◌, ◌^◌, ℕ, Bool, true, false, List, [], ◌∷◌, sym, subst}
 use Rattle.d_lexer.specs.declared.token.Mark.TheVariants as m
 use Rattle.d_lexer.specs.declared.token.Token.{Token}
 use Rattle.d_lexer.specs.declared.token.TokenKind.{TokenKind}
@@ -9,8 +9,9 @@ use Rattle.d_lexer.specs.declared.place.Place.{Place}
 use Rattle.d_lexer.specs.declared.place.Place.TheVariants.{Head, Declaration, Predicate, Body}
 use Rattle.d_lexer.specs.declared.position.Position.{Position}
 use Rattle.d_lexer.specs.Places.{first_position, place_after}
-use Rattle.d_lexer.specs.Tokens.{Past, here, past, SpellsToken, TokensEnd, Clean, Lexes}
-use Rattle.d_lexer.specs.Lexing.{open_kind, settle_token, settle, opens_body, AreTokens}
+use Rattle.d_lexer.specs.Tokens.{Past, here, past, SpellsToken, Lexes}
+use Rattle.d_lexer.specs.Lexing.{open_kind, settle, opens_body, AreTokens}
+use Rattle.d_lexer.specs.Steps.Lexing.{settle_token}
 use Rattle.d_lexer.specs.Small.{HasSmallNumber, HaveSmallNumbers}
 
 number_small : (p : Place) (own rest : List ℕ) (n : ℕ) (s : Suffix) → SpellsToken p own rest (kind.Number n s) → n < 2 ^ 64
@@ -32,10 +33,10 @@ later : (p : Place) (Then : Position → List ℕ → Type 0) (P : Type 0) → (
 later p Then P k (here h) = k _ _ h
 later p Then P k (past own rest cut piece more) = later p Then P k more
 
-lexed_small : (ts : List Token) (end : TokensEnd) (p : Place) (pos : Position) (bytes : List ℕ) → Lexes p pos bytes ts end → HaveSmallNumbers ts
-lexed_small [] end p pos bytes h = tt
-lexed_small (t ∷ ts) end p pos bytes h =
-    later p _ (HaveSmallNumbers (t ∷ ts)) (λ q z e. (spelled_small p e.0 e.1 t.kind e.3, lexed_small ts end (place_after p t.kind) _ e.1 e.7)) h
+lexed_small : (ts : List Token) (End : Place → Position → List ℕ → Type 0) (p : Place) (pos : Position) (bytes : List ℕ) → Lexes End p pos bytes ts → HaveSmallNumbers ts
+lexed_small [] End p pos bytes h = tt
+lexed_small (t ∷ ts) End p pos bytes h =
+    later p _ (HaveSmallNumbers (t ∷ ts)) (λ q z e. (spelled_small p e.0 e.1 t.kind e.3, lexed_small ts End (place_after p t.kind) _ e.1 e.7)) h
 
 opened_small : (k : TokenKind) → HasSmallNumber k → HasSmallNumber (open_kind k)
 opened_small (kind.Mark m.ClosingSlash) h = tt
@@ -50,4 +51,4 @@ settle_small [] h = tt
 settle_small (t ∷ ts) h = (settled_small t (opens_body ts) h.0, settle_small ts h.1)
 
 pub tokens_small : (bytes : List ℕ) (ts : List Token) → AreTokens bytes ts → HaveSmallNumbers ts
-tokens_small bytes ts a = subst HaveSmallNumbers (sym a.2) (settle_small a.0 (lexed_small a.0 Clean Head first_position bytes a.1))
+tokens_small bytes ts a = subst HaveSmallNumbers (sym a.2) (settle_small a.0 (lexed_small a.0 (λ p pos rest. rest ≡ []) Head first_position bytes a.1))

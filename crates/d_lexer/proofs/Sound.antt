@@ -29,15 +29,16 @@ use Rattle.d_lexer.specs.Tokens.{Fills, HasNoEnd, IsSeparator, blank, comment, f
 use Rattle.d_lexer.specs.Tokens.{option_line}
 use Rattle.d_lexer.specs.Tokens.{here, past, IsLongestRun, SpellsText, IsMark, SpellsInside}
 use Rattle.d_lexer.specs.Tokens.{SpellsToken}
-use Rattle.d_lexer.specs.Tokens.{begins, BreaksText, IsFrontFault, stray, open_comment, text}
-use Rattle.d_lexer.specs.Tokens.{number}
-use Rattle.d_lexer.specs.Tokens.{other_option, TokensEnd, Lexes}
+use Rattle.d_lexer.specs.Tokens.{Lexes}
+use Rattle.d_lexer.specs.Faults.{begins, StopsText, IsFrontFault, stray, open_comment, text}
+use Rattle.d_lexer.specs.Faults.{number, other_option}
+use Rattle.d_lexer.specs.Steps.Scan.{TokensEnd}
 use Rattle.d_lexer.specs.Steps.Scan.{run_len, front_run, tail, with_byte, skip_one, put_escape}
 use Rattle.d_lexer.specs.Steps.Scan.{text_from}
 use Rattle.d_lexer.specs.Steps.Scan.{one_longer, comment_from, mark_at, mark_front, number_front}
 use Rattle.d_lexer.specs.Steps.Scan.{comment_front, head_kind, aggregation_front, text_front}
 use Rattle.d_lexer.specs.Steps.Scan.{inside_at, head_at, token_at, front_at, Scanned, scan_by, scan}
-use Rattle.d_lexer.proofs.Base.{both_true, Split, cond_is, run_splits, run_is}
+use Rattle.d_lexer.proofs.Base.{both_true, Split, cond_is, run_splits, run_is, EndsAs}
 use Rattle.d_lexer.proofs.Numbers.{number_is, none_is}
 use Rattle.d_lexer.proofs.OptionLines.{option_is, no_option_is}
 use Rattle.d_lexer.proofs.Marks.{MarkIs, mark_sound}
@@ -91,6 +92,10 @@ comment_sound (b ∷ z) =
     (λ e. comment_more b z e (comment_from z) (comment_sound z))
 
 -- ---- text constants
+
+-- good bytes of a text constant, and then what is wrong
+abbrev BreaksText : List ℕ → Flaw → Type 0
+BreaksText z g = (body : List ℕ) × (w : List ℕ) × (rest : List ℕ) × (z ≡ body ++ rest) × SpellsText body w × StopsText g rest
 
 abbrev TextIs : List ℕ → Result (List ℕ × ℕ) Flaw → Type 0
 TextIs z (Err g) = BreaksText z g
@@ -202,7 +207,7 @@ agg_sound p pos (b ∷ z) inside =
     (λ e. record { own = []; rest = b ∷ z; is = refl; size = refl; holds = inside_spells p (64 ∷ []) (b ∷ z) (kind.AggregationName (95 ∷ [])) inside (inl (refl, refl, e)) })
 
 text_front_sound : (p : Place) (pos : Position) (z : List ℕ) → is_head p ≡ false → (r : Result (List ℕ × ℕ) Flaw) → TextIs z r → FrontIs p pos 34 z (text_front r)
-text_front_sound p pos z inside (Err g) h = text z inside refl h
+text_front_sound p pos z inside (Err g) h = text h.0 h.1 h.2 inside (ap (λ (xs : List ℕ). 34 ∷ xs) h.3) h.4 h.5
 text_front_sound p pos z inside (Ok t) s =
     record { own = s.own; rest = s.rest; is = s.is; size = s.size; holds = inside_spells p (34 ∷ s.own) s.rest (kind.TextConstant t.0) inside (s.holds.0, ap (λ (xs : List ℕ). 34 ∷ xs) s.holds.1, s.holds.2) }
 
@@ -290,12 +295,12 @@ front_sound p pos b z =
 
 -- ---- all of the text
 
-past_gap : (p : Place) (pos : Position) (bytes own rest : List ℕ) (ts : List Token) (end : TokensEnd) → bytes ≡ own ++ rest → IsSeparator p pos own rest → Lexes p (position_after pos own) rest ts end → Lexes p pos bytes ts end
+past_gap : (p : Place) (pos : Position) (bytes own rest : List ℕ) (ts : List Token) (end : TokensEnd) → bytes ≡ own ++ rest → IsSeparator p pos own rest → Lexes (EndsAs end) p (position_after pos own) rest ts → Lexes (EndsAs end) p pos bytes ts
 past_gap p pos bytes own rest [] end is h l = past own rest is h l
 past_gap p pos bytes own rest (t ∷ ts) end is h l = past own rest is h l
 
 abbrev IsRight : Place → Position → List ℕ → Scanned → Type 0
-IsRight p pos bytes s = Lexes p pos bytes s.0 s.1
+IsRight p pos bytes s = Lexes (EndsAs s.1) p pos bytes s.0
 
 by_front : (p : Place) (pos : Position) (b : ℕ) (z : List ℕ) →
     ((n : ℕ) (q : Place) (own rest : List ℕ) → z ≡ own ++ rest → n ≡ length own → IsRight q (position_after (after_byte pos b) own) rest (scan n q (after_byte pos b) z)) →

@@ -11,12 +11,13 @@ use Rattle.d_lexer.specs.declared.place.Place.TheVariants.{Head}
 use Rattle.d_lexer.specs.declared.position.Position.{Position}
 use Rattle.d_lexer.specs.declared.fault.LexFault.{LexFault}
 use Rattle.d_lexer.specs.Places.{first_position, after_byte, position_after, place_after}
-use Rattle.d_lexer.specs.Faults.{on_line}
-use Rattle.d_lexer.specs.Tokens.{Past, here, past, SpellsToken, TokensEnd, Clean, Bad, EndsAs}
-use Rattle.d_lexer.specs.Tokens.{Lexes}
-use Rattle.d_lexer.specs.Lexing.{settle, settle_token, opens_body, AreTokens, IsFirstFault}
+use Rattle.d_lexer.specs.Faults.{on_line, IsFault}
+use Rattle.d_lexer.specs.Tokens.{Past, here, past, SpellsToken, Lexes}
+use Rattle.d_lexer.specs.Steps.Scan.{TokensEnd, Clean}
+use Rattle.d_lexer.specs.Lexing.{settle, opens_body, AreTokens, IsFirstFault}
+use Rattle.d_lexer.specs.Steps.Lexing.{settle_token}
 use Rattle.d_lexer.specs.Spans.{line_after, IsInPlace, AreInOrder, HasItsLine}
-use Rattle.d_lexer.proofs.Complete.{token_reads, fault_fails}
+use Rattle.d_lexer.proofs.{Base.EndsAs, Complete.token_reads, Complete.fault_fails}
 
 -- the position is the one after these bytes
 record IsAfter (before : List ℕ) (pos : Position) : Type 0 where
@@ -71,7 +72,7 @@ stand_more : (all : List ℕ) (from : ℕ) (t : Token) (ts : List Token) → IsI
 stand_more all from t ts s low nonempty more = record { each = (s, more.each); order = (low, nonempty, more.order) }
 
 stand : (ts : List Token) (end : TokensEnd) (p : Place) (all before : List ℕ) (pos : Position) (bytes : List ℕ) (from : ℕ) → all ≡ before ++ bytes → IsAfter before pos → from ≤ pos.at →
-    Lexes p pos bytes ts end → AllStand all from ts
+    Lexes (EndsAs end) p pos bytes ts → AllStand all from ts
 stand [] end p all before pos bytes from is at low h = record { each = tt; order = tt }
 stand (t ∷ ts) end p all before pos bytes from is at low h =
     past_later p _ (AllStand all from (t ∷ ts)) all from
@@ -109,7 +110,7 @@ settle_order : (from : ℕ) (ts : List Token) → AreInOrder from ts → AreInOr
 settle_order from [] h = tt
 settle_order from (t ∷ ts) h = settled_order from t (opens_body ts) (settle ts) h.0 h.1 (settle_order t.stop ts h.2)
 
-all_stand : (bytes : List ℕ) (ts : List Token) (end : TokensEnd) → Lexes Head first_position bytes ts end → AllStand bytes 0 ts
+all_stand : (bytes : List ℕ) (ts : List Token) (end : TokensEnd) → Lexes (EndsAs end) Head first_position bytes ts → AllStand bytes 0 ts
 all_stand bytes ts end h = stand ts end Head bytes [] first_position bytes 0 refl at_start (omega arith) h
 
 pub tokens_are_in_place : (bytes : List ℕ) (ts : List Token) → AreTokens bytes ts → AllByRecursion (IsInPlace bytes) ts
@@ -120,9 +121,9 @@ tokens_in_order bytes ts a = rw a.2 (settle_order 0 a.0 (all_stand bytes a.0 Cle
 
 -- ---- faults
 
-stated : (ts : List Token) (fault : LexFault) (p : Place) (all before : List ℕ) (pos : Position) (bytes : List ℕ) → all ≡ before ++ bytes → IsAfter before pos → Lexes p pos bytes ts (Bad fault) → HasItsLine all fault
+stated : (ts : List Token) (fault : LexFault) (p : Place) (all before : List ℕ) (pos : Position) (bytes : List ℕ) → all ≡ before ++ bytes → IsAfter before pos → Lexes (IsFault fault) p pos bytes ts → HasItsLine all fault
 stated [] fault p all before pos bytes is at h =
-    past_later p (EndsAs p (Bad fault)) (HasItsLine all fault) all 0
+    past_later p (IsFault fault p) (HasItsLine all fault) all 0
     (λ b q z cut here_at _ e.
     let r = fault_fails p q z e.0 e.1 in
     record { before = b; first = r.first; later = r.others; flaw = e.0; is = cut ∙ ap (λ (xs : List ℕ). b ++ xs) r.is; stated = e.2 ∙ ap (on_line e.0) here_at.line })

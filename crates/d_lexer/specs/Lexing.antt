@@ -1,9 +1,10 @@
 -- The tokens of a script, and why it has none.
 -- Source: Dynamic Tracing Guide, "D Program Structure".
-use Rattle.std.specs.Prelude.{◌≡◌, ℕ, ◌<◌, ◌≤◌, ◌⊎◌, Bool, true, false, List, [], ◌∷◌, length}
+use Rattle.std.specs.Prelude.{◌≡◌, ℕ, ◌<◌, ◌≤◌, ◌⊎◌, Bool, true, false, if◌then◌else◌, List}
+use Rattle.std.specs.Prelude.{[], ◌∷◌, length}
 use Rattle.d_lexer.specs.Vocabulary.{Token, TokenKind, Head, LexFault, Mark, MOST_BYTES}
 use Rattle.d_lexer.specs.Places.{first_position}
-use Rattle.d_lexer.specs.Tokens.{Clean, Bad, Lexes}
+use Rattle.d_lexer.specs.{Tokens.Lexes, Faults.IsFault}
 
 -- ---- the closing slash of a predicate
 
@@ -23,25 +24,22 @@ open_kind (TokenKind.Mark Mark.ClosingSlash) = TokenKind.Mark Mark.Slash
 open_kind t = t
 
 -- a slash of a predicate is the closing one exactly where the next token is an opening brace
-abbrev pub settle_token : Token → Bool → Token
-settle_token t true = t
-settle_token t false = record t { kind = open_kind t.kind }
-
--- all of them settled
 abbrev pub settle : List Token → List Token
 settle [] = []
-settle (t ∷ ts) = settle_token t (opens_body ts) ∷ settle ts
+settle (t ∷ ts) =
+    (if opens_body ts then t else record t { kind = open_kind t.kind }) ∷ settle ts
 
 -- ---- tokens and fault
 
 -- the tokens of all the bytes
 abbrev pub AreTokens : List ℕ → List Token → Type 0
 AreTokens bytes ts =
-    (plain : List Token) × Lexes Head first_position bytes plain Clean × (ts ≡ settle plain)
+    (plain : List Token) × Lexes (λ p pos rest. rest ≡ []) Head first_position bytes plain
+    × (ts ≡ settle plain)
 
 -- what is wrong after the tokens that come before it
 abbrev pub IsFirstFault : List ℕ → LexFault → Type 0
-IsFirstFault bytes fault = (plain : List Token) × Lexes Head first_position bytes plain (Bad fault)
+IsFirstFault bytes fault = (ts : List Token) × Lexes (IsFault fault) Head first_position bytes ts
 
 -- the script is within the limit, and these are its tokens
 abbrev pub IsLexed : List ℕ → List Token → Type 0

@@ -4,7 +4,8 @@ use Rattle.std.specs.Prelude.{ℕ, ◌+◌, ◌==◌, Bool, true, false, ◌&&�
 use Rattle.std.specs.Prelude.{◌∷◌}
 use Rattle.d_lexer.specs.Vocabulary.{Mark, TokenKind, Place, Head, Declaration, Predicate, Body}
 use Rattle.d_lexer.specs.Vocabulary.{Position}
-use Rattle.d_lexer.specs.Bytes.{line_feed, hash, is_space, next_is}
+use Rattle.std.specs.Str.{byte}
+use Rattle.d_lexer.specs.Bytes.{is_space, next_is}
 
 -- ---- positions
 
@@ -16,8 +17,8 @@ first_position = record { at = 0; line = 1; fresh = true }
 abbrev pub after_byte : Position → ℕ → Position
 after_byte pos b = record {
   at = pos.at + 1;
-  line = if b == line_feed then pos.line + 1 else pos.line;
-  fresh = b == line_feed || (pos.fresh && is_space b);
+  line = if b == byte "\n" then pos.line + 1 else pos.line;
+  fresh = b == byte "\n" || (pos.fresh && is_space b);
 }
 
 -- the position after the bytes
@@ -34,11 +35,11 @@ is_head p = false
 
 -- the bytes begin here with #!
 abbrev pub is_first : Position → ℕ → List ℕ → Bool
-is_first pos b z = pos.at == 0 && b == hash && next_is 33 z
+is_first pos b z = pos.at == 0 && b == byte "#" && next_is (byte "!") z
 
 -- a line of the head begins here with #
 abbrev pub is_hash : Place → Position → ℕ → Bool
-is_hash p pos b = is_head p && pos.fresh && b == hash
+is_hash p pos b = is_head p && pos.fresh && b == byte "#"
 
 -- ---- the place that follows a token
 

@@ -20,7 +20,7 @@ fn is_closing(token: &Token) -> bool
 
 // Makes a closing slash a division, unless an opening brace comes next.
 fn settle_one(token: &mut Token, brace: bool)
-    ensures { token.new ≡ spec.settle_token token.old brace }
+    ensures { token.new ≡ steps.settle_token token.old brace }
 {
     if !brace && is_closing(token) {
         token.kind = TokenKind::Mark(Mark::Slash);

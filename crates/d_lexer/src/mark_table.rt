@@ -1,7 +1,7 @@
 //! Marks, the longest first. A table for each length is looked up by the first byte.
 
 ghost use Rattle.std.specs.Prelude.{◌≡◌, []};
-ghost use Rattle.d_lexer.specs.{Bytes.entry_of, Vocabulary.Body};
+ghost use Rattle.d_lexer.specs.{Steps.Marks.entry_of, Vocabulary.Body};
 ghost use Rattle.d_lexer.specs.Steps.Scan.{mark_at, one_at, three_at, two_at};
 ghost use Rattle.d_lexer.specs.Steps.Marks as spec;
 

@@ -1,26 +1,23 @@
 //! Numbers: `0x` and hexadecimal digits, `0` and octal digits, or decimal digits, then a suffix.
 
-ghost use Rattle.std.specs.Prelude.{◌≡◌, ◌<◌, [], ◌∷◌, true};
+ghost use Rattle.std.specs.Prelude.{◌≡◌, ◌≤◌, ◌<◌, [], ◌∷◌, true};
 ghost use Rattle.std.specs.Char.{is_ascii_digit};
 ghost use Rattle.d_lexer.specs.Steps.Numbers as spec;
 
 use crate::token::Suffix;
 
-fn digit_of(base: u64, d: u8) -> Option<u64>
+fn digit_of(base: u32, d: u8) -> Option<u64>
+    requires small { 2 ≤ base }
+    requires great { base ≤ 16 }
     ensures { result ≡ spec.digit_of base d }
 {
-    let value = match d {
-        b'0'..=b'9' => u64::from(d - b'0'),
-        b'a'..=b'f' => u64::from(d - b'a' + 10),
-        b'A'..=b'F' => u64::from(d - b'A' + 10),
-        _ => return None,
-    };
-    if value < base { Some(value) } else { None }
+    let value = char::from(d).to_digit(base)?;
+    Some(u64::from(value))
 }
 
-#[tactic(auto, unfolding(crate::specs::Numbers::suffix_of))]
+#[tactic(auto, unfolding(crate::specs::Steps::Numbers::suffix_by_letters))]
 fn suffix_of(bytes: &[u8]) -> Option<Suffix>
-    ensures { result ≡ spec.suffix_of bytes.now }
+    ensures { result ≡ spec.suffix_by_letters bytes.now }
 {
     match bytes {
         [] => Some(Suffix::Absent),
@@ -32,15 +29,17 @@ fn suffix_of(bytes: &[u8]) -> Option<Suffix>
     }
 }
 
-fn one_more(base: u64, n: u64, k: u64) -> Option<u64>
+fn one_more(base: u32, n: u64, k: u64) -> Option<u64>
     ensures { result ≡ spec.one_digit_more base n k }
 {
-    let shifted = n.checked_mul(base)?;
+    let shifted = n.checked_mul(u64::from(base))?;
     shifted.checked_add(k)
 }
 
 #[tactic(auto, unfolding(crate::specs::Steps::Numbers::number_from))]
-fn number_from(base: u64, first: u64, bytes: &[u8]) -> Option<(u64, Suffix)>
+fn number_from(base: u32, first: u64, bytes: &[u8]) -> Option<(u64, Suffix)>
+    requires small { 2 ≤ base }
+    requires great { base ≤ 16 }
     ensures { result ≡ spec.number_from base first bytes.now }
 {
     let mut n = first;

@@ -38,21 +38,22 @@ use Rattle.d_parser.specs.declared.tree.DeclaredType.TheVariants as d
 use Rattle.d_parser.specs.Words.{word_kind, word_kind_of}
 use Rattle.d_parser.specs.Steps.Words.{begins_type, is_word, run, after_run, type_from}
 use Rattle.d_parser.specs.Steps.Words.{only_integer, integer_type}
-use Rattle.d_parser.specs.Marks.{level_of, binary_mark, assign_mark, unary_mark, step_mark}
+use Rattle.d_parser.specs.Marks.{assign_mark, unary_mark, step_mark}
+use Rattle.d_parser.specs.{Symbols.binary_mark, Steps.Marks.level_of}
 use Rattle.d_parser.specs.Steps.Marks.{prefix_of, follow_of, follow_at, kind_is, is_at, same_mark}
 use Rattle.d_parser.specs.Steps.Marks.{tail}
-use Rattle.d_parser.specs.Grammar.{token, IsToken, IsMark, Within, IsPhrase, level, IsWord, IsMember}
+use Rattle.d_parser.specs.Grammar.{token, IsToken, IsMark, Within, IsOfLevel, level, IsWord, IsMember}
 use Rattle.d_parser.specs.Grammar.{IsTarget, IsEnclosed, Spells, SpellsKeys, SpellsList, SpellsMore}
 use Rattle.d_parser.specs.Steps.Reading.{after_mark, plain_word, member, variable, typed_by}
 use Rattle.d_parser.specs.Steps.Reading.{is_typed}
 use Rattle.d_parser.specs.Steps.Reading.{cast_type, calls, begins_call, readers, closed_list}
 use Rattle.d_parser.specs.Steps.Reading.{keys_by}
-use Rattle.d_parser.specs.Steps.Reading.{keys, arguments, with_keys, target, follows_by, follows}
-use Rattle.d_parser.specs.Steps.Reading.{part_at_name, part_at_cast, part_in_parentheses}
-use Rattle.d_parser.specs.Steps.Reading.{part_at_step}
-use Rattle.d_parser.specs.Steps.Reading.{part_at_mark, part_by, part, climb_by, climb_on, choice_by}
-use Rattle.d_parser.specs.Steps.Reading.{alternatives, choice, operand, whole, further_on}
-use Rattle.d_parser.proofs.Takes.{sign_one, word_one, member_takes, type_takes, takes, phrase_takes}
+use Rattle.d_parser.specs.Steps.Reading.{keys, arguments, with_keys, target, target_tail_by, target_tail}
+use Rattle.d_parser.specs.Steps.Reading.{post_at_name, unary_at_cast, unary_in_parentheses}
+use Rattle.d_parser.specs.Steps.Reading.{unary_at_step}
+use Rattle.d_parser.specs.Steps.Reading.{unary_at_mark, unary_by, unary, binary_tail_by, binary_tail_on, cond_tail_by}
+use Rattle.d_parser.specs.Steps.Reading.{alternatives, cond_tail, binary, expr_on, exprs_tail_on}
+use Rattle.d_parser.proofs.Takes.{sign_one, word_one, member_takes, type_takes, takes, expr_takes}
 use Rattle.d_parser.proofs.Takes.{target_takes}
 use Rattle.d_parser.proofs.Signs.{unary_prefix, step_prefix, step_follow, assign_follow}
 use Rattle.d_parser.proofs.Signs.{binary_follow}
@@ -61,7 +62,7 @@ use Rattle.d_parser.proofs.Types.{type_is, type_words}
 
 -- ---- what follows
 
--- a phrase of a level above this ends before the first token
+-- an expression of a level above this ends before the first token
 abbrev pub reach_of : Follow → ℕ
 reach_of (f.Infix op) = level_of op
 reach_of (f.Assign op) = 1
@@ -108,7 +109,7 @@ after_sign mark ts rest s h = rw (sign_at mark mark ts rest h, s, sign_tail mark
 pub sign_reach : (mark : Mark) (ts rest : List Token) (f : Follow) → IsMark mark ts rest → follow_of mark ≡ f → reach ts ≡ reach_of f
 sign_reach mark ts rest f h e = ap reach_of (sign_follow mark ts rest h ∙ e)
 
--- nothing but what opens or steps goes on a unary part
+-- nothing but what opens or steps goes on a unary expression
 below_unary : (f : Follow) → reach_of f < 15 → reach_of f < 14
 below_unary (f.Infix op) h = let low = level_below op in omega arith
 below_unary (f.Assign op) h = lit< tt
@@ -120,21 +121,21 @@ below_unary f.Other h = lit< tt
 
 -- ---- steps
 
-climb_stays : (n k : ℕ) (f : Follow) (t : Tree) (ts : List Token) → reach_of f < k → climb_by (readers n) f k t ts ≡ Some (t, ts)
-climb_stays n k (f.Infix op) t ts h = rw (lt-leb k (level_of op) h) refl
-climb_stays n k (f.Assign op) t ts h = refl
-climb_stays n k (f.Step step) t ts h = refl
-climb_stays n k f.Question t ts h = refl
-climb_stays n k f.Bracket t ts h = refl
-climb_stays n k f.Parenthesis t ts h = refl
-climb_stays n k f.Other t ts h = refl
+binary_tail_stays : (n k : ℕ) (f : Follow) (t : Tree) (ts : List Token) → reach_of f < k → binary_tail_by (readers n) f k t ts ≡ Some (t, ts)
+binary_tail_stays n k (f.Infix op) t ts h = rw (lt-leb k (level_of op) h) refl
+binary_tail_stays n k (f.Assign op) t ts h = refl
+binary_tail_stays n k (f.Step step) t ts h = refl
+binary_tail_stays n k f.Question t ts h = refl
+binary_tail_stays n k f.Bracket t ts h = refl
+binary_tail_stays n k f.Parenthesis t ts h = refl
+binary_tail_stays n k f.Other t ts h = refl
 
-climb_ends : (n k : ℕ) (t : Tree) (ts : List Token) → 0 < n → reach ts < k → (readers n).climb k t ts ≡ Some (t, ts)
-unfolding climb_on
-climb_ends zero k t ts h e = absurd (omega arith)
-climb_ends (suc n) k t ts h e = climb_stays n k (follow_at ts) t ts e
+binary_tail_ends : (n k : ℕ) (t : Tree) (ts : List Token) → 0 < n → reach ts < k → (readers n).binary_tail k t ts ≡ Some (t, ts)
+unfolding binary_tail_on
+binary_tail_ends zero k t ts h e = absurd (omega arith)
+binary_tail_ends (suc n) k t ts h e = binary_tail_stays n k (follow_at ts) t ts e
 
-question_by : (n : ℕ) (f : Follow) (t : Tree) (ts : List Token) → reach_of f < 2 → choice_by (readers n) f t ts ≡ Some (t, ts)
+question_by : (n : ℕ) (f : Follow) (t : Tree) (ts : List Token) → reach_of f < 2 → cond_tail_by (readers n) f t ts ≡ Some (t, ts)
 question_by n (f.Infix op) t ts h = refl
 question_by n (f.Assign op) t ts h = refl
 question_by n (f.Step step) t ts h = refl
@@ -143,45 +144,45 @@ question_by n f.Bracket t ts h = refl
 question_by n f.Parenthesis t ts h = refl
 question_by n f.Other t ts h = refl
 
-choice_stays : (n k : ℕ) (t : Tree) (ts : List Token) → reach ts < k → choice (readers n) k t ts ≡ Some (t, ts)
-unfolding choice
-choice_stays n k t ts h =
+cond_tail_stays : (n k : ℕ) (t : Tree) (ts : List Token) → reach ts < k → cond_tail (readers n) k t ts ≡ Some (t, ts)
+unfolding cond_tail
+cond_tail_stays n k t ts h =
     elim (cases_lt 2 k) [
       | inl high ↦ rw (lt-leb k 2 high) refl
       | inr low ↦ rw (le-leb k 2 low) (question_by n (follow_at ts) t ts (omega arith))
     ]
 
-whole_of : (n k : ℕ) (ts : List Token) (t : Tree) (rest : List Token) → operand (readers n) k ts ≡ Some (t, rest) → (readers (suc n)).phrase k ts ≡ choice (readers n) k t rest
-unfolding whole
-whole_of n k ts t rest e = rw e refl
+expr_on_of : (n k : ℕ) (ts : List Token) (t : Tree) (rest : List Token) → binary (readers n) k ts ≡ Some (t, rest) → (readers (suc n)).expr k ts ≡ cond_tail (readers n) k t rest
+unfolding expr_on
+expr_on_of n k ts t rest e = rw e refl
 
-operand_of : (n k : ℕ) (ts : List Token) (t : Tree) (rest : List Token) → part (readers n) k ts ≡ Some (t, rest) → operand (readers n) k ts ≡ (readers n).climb (max k 3) t rest
-unfolding operand
-operand_of n k ts t rest e = rw e refl
+binary_of : (n k : ℕ) (ts : List Token) (t : Tree) (rest : List Token) → unary (readers n) k ts ≡ Some (t, rest) → binary (readers n) k ts ≡ (readers n).binary_tail (max k 3) t rest
+unfolding binary
+binary_of n k ts t rest e = rw e refl
 
--- a part that nothing goes on is a phrase
-part_ends : (n k : ℕ) (ts : List Token) (t : Tree) (rest : List Token) → part (readers n) k ts ≡ Some (t, rest) → length rest < n → reach rest < k → (readers (suc n)).phrase k ts ≡ Some (t, rest)
-part_ends n k ts t rest e len h =
-    whole_of n k ts t rest (operand_of n k ts t rest e ∙ climb_ends n (max k 3) t rest (omega arith) (omega arith)) ∙ choice_stays n k t rest h
+-- a unary expression that nothing goes on is an expression
+unary_ends : (n k : ℕ) (ts : List Token) (t : Tree) (rest : List Token) → unary (readers n) k ts ≡ Some (t, rest) → length rest < n → reach rest < k → (readers (suc n)).expr k ts ≡ Some (t, rest)
+unary_ends n k ts t rest e len h =
+    expr_on_of n k ts t rest (binary_of n k ts t rest e ∙ binary_tail_ends n (max k 3) t rest (omega arith) (omega arith)) ∙ cond_tail_stays n k t rest h
 
 -- ---- what a tree owes
 
 -- its operators are joined up to here, with enough levels left
-pub record Climbed (n k : ℕ) (t : Tree) (ts rest : List Token) : Type 0 where
+pub record BinaryTail (n k : ℕ) (t : Tree) (ts rest : List Token) : Type 0 where
   pub left : ℕ
   pub enough : length rest < left
   pub within : left ≤ n
-  pub is : operand (readers n) k ts ≡ (readers left).climb (max k 3) t rest
+  pub is : binary (readers n) k ts ≡ (readers left).binary_tail (max k 3) t rest
 
-abbrev Climbs : Tree → Type 0
-Climbs t = (n k l : ℕ) (ts rest : List Token) → Spells t ts rest → 3 ≤ l → l ≤ 13 → l ≤ level t → k ≤ l → length ts ≤ n → reach rest ≤ l → (reach rest ≡ 1 → 2 ≤ k) → Climbed n k t ts rest
+abbrev ReadsBinary : Tree → Type 0
+ReadsBinary t = (n k l : ℕ) (ts rest : List Token) → Spells t ts rest → 3 ≤ l → l ≤ 13 → l ≤ level t → k ≤ l → length ts ≤ n → reach rest ≤ l → (reach rest ≡ 1 → 2 ≤ k) → BinaryTail n k t ts rest
 
-abbrev Phrases : Tree → Type 0
-Phrases t = (n k : ℕ) (ts rest : List Token) → Spells t ts rest → k ≤ level t → length ts < n → reach rest < k → (readers n).phrase k ts ≡ Some (t, rest)
+abbrev ReadsExpr : Tree → Type 0
+ReadsExpr t = (n k : ℕ) (ts rest : List Token) → Spells t ts rest → k ≤ level t → length ts < n → reach rest < k → (readers n).expr k ts ≡ Some (t, rest)
 
 pub record Reads (t : Tree) : Type 0 where
-  pub climbs : Climbs t
-  pub phrases : Phrases t
+  pub reads_binary : ReadsBinary t
+  pub reads_expr : ReadsExpr t
 
 level_least : (t : Tree) → 1 ≤ level t
 level_least (Known line constant) = lit≤ tt
@@ -211,115 +212,115 @@ typed_kind n k w.Signed follow name line ts h = (refl, refl)
 typed_kind n k w.Unsigned follow name line ts h = (refl, refl)
 typed_kind n k (w.Fixed t) follow name line ts h = (refl, refl)
 
-typed_part : (n k : ℕ) (t : TokenKind) (line : ℕ) (ts : List Token) → typed_by t ≡ true → part_by (readers n) k t line ts ≡ None
-unfolding part_at_name target
-typed_part n k (kind.Word name) line ts h = let e = typed_kind n k (word_kind name) (follow_at ts) name line ts h in rw (e.0, e.1) refl
-typed_part n k (kind.DescriptionRun name) line ts h = refl
-typed_part n k (kind.AggregationName name) line ts h = refl
-typed_part n k (kind.Number value suffix) line ts h = absurd cc
-typed_part n k (kind.TextConstant bytes) line ts h = absurd cc
-typed_part n k (kind.Mark mark) line ts h = absurd cc
+typed_unary : (n k : ℕ) (t : TokenKind) (line : ℕ) (ts : List Token) → typed_by t ≡ true → unary_by (readers n) k t line ts ≡ None
+unfolding post_at_name target
+typed_unary n k (kind.Word name) line ts h = let e = typed_kind n k (word_kind name) (follow_at ts) name line ts h in rw (e.0, e.1) refl
+typed_unary n k (kind.DescriptionRun name) line ts h = refl
+typed_unary n k (kind.AggregationName name) line ts h = refl
+typed_unary n k (kind.Number value suffix) line ts h = absurd cc
+typed_unary n k (kind.TextConstant bytes) line ts h = absurd cc
+typed_unary n k (kind.Mark mark) line ts h = absurd cc
 
 -- no expression begins with a word of a type
-typed_none : (n k : ℕ) (ts : List Token) → is_typed ts ≡ true → (readers n).phrase k ts ≡ None
-unfolding whole operand part
+typed_none : (n k : ℕ) (ts : List Token) → is_typed ts ≡ true → (readers n).expr k ts ≡ None
+unfolding expr_on binary unary
 typed_none zero k ts h = refl
 typed_none (suc n) k [] h = absurd cc
-typed_none (suc n) k (t ∷ ts) h = rw (typed_part n k t.kind t.line ts h) refl
+typed_none (suc n) k (t ∷ ts) h = rw (typed_unary n k t.kind t.line ts h) refl
 
-untyped_by : (b : Bool) (n k : ℕ) (ts : List Token) (x : Tree × List Token) → is_typed ts ≡ b → (readers n).phrase k ts ≡ Some x → b ≡ false
+untyped_by : (b : Bool) (n k : ℕ) (ts : List Token) (x : Tree × List Token) → is_typed ts ≡ b → (readers n).expr k ts ≡ Some x → b ≡ false
 untyped_by true n k ts x h e = let none = typed_none n k ts h in absurd cc
 untyped_by false n k ts x h e = refl
 
-parens_read : (n k line : ℕ) (t : Tree) (inner close rest : List Token) → (readers n).phrase 1 inner ≡ Some (t, close) → IsMark m.CloseParenthesis close rest → part_at_mark (readers n) m.OpenParenthesis line inner ≡ Some (t, rest)
-unfolding part_at_mark part_in_parentheses
+parens_read : (n k line : ℕ) (t : Tree) (inner close rest : List Token) → (readers n).expr 1 inner ≡ Some (t, close) → IsMark m.CloseParenthesis close rest → unary_at_mark (readers n) m.OpenParenthesis line inner ≡ Some (t, rest)
+unfolding unary_at_mark unary_in_parentheses
 parens_read n k line t inner close rest e h =
     rw (untyped_by (is_typed inner) n 1 inner (t, close) refl e) (rw e (rw (after_sign m.CloseParenthesis close rest refl h) refl))
 
-parens_part : (n k : ℕ) (t : Tree) (ts inner close rest : List Token) → IsMark m.OpenParenthesis ts inner → (readers n).phrase 1 inner ≡ Some (t, close) → IsMark m.CloseParenthesis close rest → part (readers n) k ts ≡ Some (t, rest)
-unfolding part
-parens_part n k t ts inner close rest o e h = rw o.begins.is (parens_read n k o.line t inner close rest e h)
+parens_unary : (n k : ℕ) (t : Tree) (ts inner close rest : List Token) → IsMark m.OpenParenthesis ts inner → (readers n).expr 1 inner ≡ Some (t, close) → IsMark m.CloseParenthesis close rest → unary (readers n) k ts ≡ Some (t, rest)
+unfolding unary
+parens_unary n k t ts inner close rest o e h = rw o.begins.is (parens_read n k o.line t inner close rest e h)
 
 close_reach : (ts rest : List Token) → IsMark m.CloseParenthesis ts rest → reach ts ≡ 0
 close_reach ts rest h = sign_reach m.CloseParenthesis ts rest f.Other h refl
 
-inside : (t : Tree) → Reads t → (p n : ℕ) (ts rest : List Token) → Within p (Spells t) ts rest → length ts < n → reach rest < 1 → (readers n).phrase 1 ts ≡ Some (t, rest)
-inside t r zero n ts rest h len e = r.phrases n 1 ts rest h (level_least t) len e
+inside : (t : Tree) → Reads t → (p n : ℕ) (ts rest : List Token) → Within p (Spells t) ts rest → length ts < n → reach rest < 1 → (readers n).expr 1 ts ≡ Some (t, rest)
+inside t r zero n ts rest h len e = r.reads_expr n 1 ts rest h (level_least t) len e
 inside t r (suc p) zero ts rest h len e = absurd (omega arith)
 inside t r (suc p) (suc n) ts rest h len e =
     let one = sign_one m.OpenParenthesis ts h.0 h.1 in
     let two = sign_one m.CloseParenthesis h.2.0 rest h.2.2 in
-    let less = phrase_takes t 1 h.0 h.2.0 (record { pairs = p; high = λ e. level_least t; within = h.2.1 }) in
+    let less = expr_takes t 1 h.0 h.2.0 (record { pairs = p; high = λ e. level_least t; within = h.2.1 }) in
     let zero_reach = close_reach h.2.0 rest h.2.2 in
-    part_ends n 1 ts t rest (parens_part n 1 t ts h.0 h.2.0 rest h.1 (inside t r p n h.0 h.2.0 h.2.1 (omega arith) (omega arith)) h.2.2) (omega arith) e
+    unary_ends n 1 ts t rest (parens_unary n 1 t ts h.0 h.2.0 rest h.1 (inside t r p n h.0 h.2.0 h.2.1 (omega arith) (omega arith)) h.2.2) (omega arith) e
 
-wrapped_part : (t : Tree) → Reads t → (p n k : ℕ) (ts rest : List Token) → Within (suc p) (Spells t) ts rest → length ts ≤ n → part (readers n) k ts ≡ Some (t, rest)
-wrapped_part t r p n k ts rest h len =
+wrapped_unary : (t : Tree) → Reads t → (p n k : ℕ) (ts rest : List Token) → Within (suc p) (Spells t) ts rest → length ts ≤ n → unary (readers n) k ts ≡ Some (t, rest)
+wrapped_unary t r p n k ts rest h len =
     let one = sign_one m.OpenParenthesis ts h.0 h.1 in
     let zero_reach = close_reach h.2.0 rest h.2.2 in
-    parens_part n k t ts h.0 h.2.0 rest h.1 (inside t r p n h.0 h.2.0 h.2.1 (omega arith) (omega arith)) h.2.2
+    parens_unary n k t ts h.0 h.2.0 rest h.1 (inside t r p n h.0 h.2.0 h.2.1 (omega arith) (omega arith)) h.2.2
 
-phrase_by : (t : Tree) → Reads t → (p n k : ℕ) (ts rest : List Token) → (p ≡ 0 → k ≤ level t) → Within p (Spells t) ts rest → length rest < length ts → length ts < n → reach rest < k → (readers n).phrase k ts ≡ Some (t, rest)
-phrase_by t r zero n k ts rest high h less len e = r.phrases n k ts rest h (high refl) len e
-phrase_by t r (suc p) zero k ts rest high h less len e = absurd (omega arith)
-phrase_by t r (suc p) (suc n) k ts rest high h less len e = part_ends n k ts t rest (wrapped_part t r p n k ts rest h (omega arith)) (omega arith) e
+expr_by : (t : Tree) → Reads t → (p n k : ℕ) (ts rest : List Token) → (p ≡ 0 → k ≤ level t) → Within p (Spells t) ts rest → length rest < length ts → length ts < n → reach rest < k → (readers n).expr k ts ≡ Some (t, rest)
+expr_by t r zero n k ts rest high h less len e = r.reads_expr n k ts rest h (high refl) len e
+expr_by t r (suc p) zero k ts rest high h less len e = absurd (omega arith)
+expr_by t r (suc p) (suc n) k ts rest high h less len e = unary_ends n k ts t rest (wrapped_unary t r p n k ts rest h (omega arith)) (omega arith) e
 
-pub phrase_of : (t : Tree) → Reads t → (n k : ℕ) (ts rest : List Token) → IsPhrase (Spells t) (level t) k ts rest → length ts < n → reach rest < k → (readers n).phrase k ts ≡ Some (t, rest)
-phrase_of t r n k ts rest h len e = phrase_by t r h.pairs n k ts rest h.high h.within (phrase_takes t k ts rest h) len e
+pub expr_of : (t : Tree) → Reads t → (n k : ℕ) (ts rest : List Token) → IsOfLevel (Spells t) (level t) k ts rest → length ts < n → reach rest < k → (readers n).expr k ts ≡ Some (t, rest)
+expr_of t r n k ts rest h len e = expr_by t r h.pairs n k ts rest h.high h.within (expr_takes t k ts rest h) len e
 
-climbed_part : (n k : ℕ) (t : Tree) (ts rest : List Token) → length rest < n → part (readers n) k ts ≡ Some (t, rest) → Climbed n k t ts rest
-climbed_part n k t ts rest len e = record { left = n; enough = len; within = omega arith; is = operand_of n k ts t rest e }
+binary_of_unary : (n k : ℕ) (t : Tree) (ts rest : List Token) → length rest < n → unary (readers n) k ts ≡ Some (t, rest) → BinaryTail n k t ts rest
+binary_of_unary n k t ts rest len e = record { left = n; enough = len; within = omega arith; is = binary_of n k ts t rest e }
 
-climbs_by : (t : Tree) → Reads t → (p n k l : ℕ) (ts rest : List Token) → (p ≡ 0 → l ≤ level t) → Within p (Spells t) ts rest → length rest < length ts → 3 ≤ l → l ≤ 13 → k ≤ l → length ts ≤ n → reach rest ≤ l → (reach rest ≡ 1 → 2 ≤ k) → Climbed n k t ts rest
-climbs_by t r zero n k l ts rest high h less low most le len e free = r.climbs n k l ts rest h low most (high refl) le len e free
-climbs_by t r (suc p) n k l ts rest high h less low most le len e free = climbed_part n k t ts rest (omega arith) (wrapped_part t r p n k ts rest h len)
+reads_binary_by : (t : Tree) → Reads t → (p n k l : ℕ) (ts rest : List Token) → (p ≡ 0 → l ≤ level t) → Within p (Spells t) ts rest → length rest < length ts → 3 ≤ l → l ≤ 13 → k ≤ l → length ts ≤ n → reach rest ≤ l → (reach rest ≡ 1 → 2 ≤ k) → BinaryTail n k t ts rest
+reads_binary_by t r zero n k l ts rest high h less low most le len e free = r.reads_binary n k l ts rest h low most (high refl) le len e free
+reads_binary_by t r (suc p) n k l ts rest high h less low most le len e free = binary_of_unary n k t ts rest (omega arith) (wrapped_unary t r p n k ts rest h len)
 
-climbs_of : (t : Tree) → Reads t → (n k l : ℕ) (ts rest : List Token) → IsPhrase (Spells t) (level t) l ts rest → 3 ≤ l → l ≤ 13 → k ≤ l → length ts ≤ n → reach rest ≤ l → (reach rest ≡ 1 → 2 ≤ k) → Climbed n k t ts rest
-climbs_of t r n k l ts rest h low most le len e free = climbs_by t r h.pairs n k l ts rest h.high h.within (phrase_takes t l ts rest h) low most le len e free
+reads_binary_of : (t : Tree) → Reads t → (n k l : ℕ) (ts rest : List Token) → IsOfLevel (Spells t) (level t) l ts rest → 3 ≤ l → l ≤ 13 → k ≤ l → length ts ≤ n → reach rest ≤ l → (reach rest ≡ 1 → 2 ≤ k) → BinaryTail n k t ts rest
+reads_binary_of t r n k l ts rest h low most le len e free = reads_binary_by t r h.pairs n k l ts rest h.high h.within (expr_takes t l ts rest h) low most le len e free
 
 -- ---- from one statement to the other
 
-from_climbs : (t : Tree) → 3 ≤ level t → level t ≤ 13 → Climbs t → Phrases t
-from_climbs t high most climbs zero k ts rest s le len e = absurd (omega arith)
-from_climbs t high most climbs (suc n) k ts rest s le len e =
-    let up = climbs n k (max k 3) ts rest s (omega arith) (omega arith) (omega arith) (omega arith) (omega arith) (omega arith) (λ one. omega arith) in
-    whole_of n k ts t rest (up.is ∙ climb_ends up.left (max k 3) t rest (let h = up.enough in omega arith) (omega arith)) ∙ choice_stays n k t rest e
+expr_of_binary : (t : Tree) → 3 ≤ level t → level t ≤ 13 → ReadsBinary t → ReadsExpr t
+expr_of_binary t high most reads_binary zero k ts rest s le len e = absurd (omega arith)
+expr_of_binary t high most reads_binary (suc n) k ts rest s le len e =
+    let up = reads_binary n k (max k 3) ts rest s (omega arith) (omega arith) (omega arith) (omega arith) (omega arith) (omega arith) (λ one. omega arith) in
+    expr_on_of n k ts t rest (up.is ∙ binary_tail_ends up.left (max k 3) t rest (let h = up.enough in omega arith) (omega arith)) ∙ cond_tail_stays n k t rest e
 
-reads_joined : (t : Tree) → 3 ≤ level t → level t ≤ 13 → Climbs t → Reads t
-reads_joined t high most climbs = record { climbs = climbs; phrases = from_climbs t high most climbs }
+reads_joined : (t : Tree) → 3 ≤ level t → level t ≤ 13 → ReadsBinary t → Reads t
+reads_joined t high most reads_binary = record { reads_binary = reads_binary; reads_expr = expr_of_binary t high most reads_binary }
 
 -- what is one part, whatever comes after it
-abbrev IsPart : Tree → Type 0
-IsPart t = (n k : ℕ) (ts rest : List Token) → Spells t ts rest → length ts ≤ n → reach rest < 15 → (reach rest ≡ 1 → 2 ≤ k) → part (readers n) k ts ≡ Some (t, rest)
+abbrev IsUnary : Tree → Type 0
+IsUnary t = (n k : ℕ) (ts rest : List Token) → Spells t ts rest → length ts ≤ n → reach rest < 15 → (reach rest ≡ 1 → 2 ≤ k) → unary (readers n) k ts ≡ Some (t, rest)
 
-part_phrase : (t : Tree) → level t ≤ 15 → IsPart t → Phrases t
-part_phrase t low is_part zero k ts rest s le len e = absurd (omega arith)
-part_phrase t low is_part (suc n) k ts rest s le len e =
+unary_reads_expr : (t : Tree) → level t ≤ 15 → IsUnary t → ReadsExpr t
+unary_reads_expr t low is_unary zero k ts rest s le len e = absurd (omega arith)
+unary_reads_expr t low is_unary (suc n) k ts rest s le len e =
     let less = takes t ts rest s in
-    part_ends n k ts t rest (is_part n k ts rest s (omega arith) (omega arith) (λ one. omega arith)) (omega arith) e
+    unary_ends n k ts t rest (is_unary n k ts rest s (omega arith) (omega arith) (λ one. omega arith)) (omega arith) e
 
-part_climbs : (t : Tree) → IsPart t → Climbs t
-part_climbs t is_part n k l ts rest s low most high le len e free =
+unary_reads_binary : (t : Tree) → IsUnary t → ReadsBinary t
+unary_reads_binary t is_unary n k l ts rest s low most high le len e free =
     let less = takes t ts rest s in
-    climbed_part n k t ts rest (omega arith) (is_part n k ts rest s len (omega arith) free)
+    binary_of_unary n k t ts rest (omega arith) (is_unary n k ts rest s len (omega arith) free)
 
-reads_part : (t : Tree) → level t ≤ 15 → IsPart t → Reads t
-reads_part t low is_part = record { climbs = part_climbs t is_part; phrases = part_phrase t low is_part }
+reads_unary : (t : Tree) → level t ≤ 15 → IsUnary t → Reads t
+reads_unary t low is_unary = record { reads_binary = unary_reads_binary t is_unary; reads_expr = unary_reads_expr t low is_unary }
 
-reads_low : (t : Tree) → level t < 3 → Phrases t → Reads t
-reads_low t low phrases = record { climbs = λ n k l ts rest s h1 h2 h3. absurd (omega arith); phrases = phrases }
+reads_low : (t : Tree) → level t < 3 → ReadsExpr t → Reads t
+reads_low t low reads_expr = record { reads_binary = λ n k l ts rest s h1 h2 h3. absurd (omega arith); reads_expr = reads_expr }
 
 -- ---- constants
 
-known_part : (line : ℕ) (constant : Constant) → IsPart (Known line constant)
-unfolding part
-known_part line (c.Number value suffix) n k ts rest s len e free = rw s.is refl
-known_part line (c.Text bytes) n k ts rest s len e free = rw s.is refl
+known_unary : (line : ℕ) (constant : Constant) → IsUnary (Known line constant)
+unfolding unary
+known_unary line (c.Number value suffix) n k ts rest s len e free = rw s.is refl
+known_unary line (c.Text bytes) n k ts rest s len e free = rw s.is refl
 
 reads_known : (line : ℕ) (constant : Constant) → Reads (Known line constant)
-reads_known line constant = reads_part (Known line constant) (lit≤ tt) (known_part line constant)
+reads_known line constant = reads_unary (Known line constant) (lit≤ tt) (known_unary line constant)
 
--- ---- unary parts
+-- ---- unary expressions
 
 open_is : (b : Bool) (mark : Mark) (x : Prefix) → same_mark mark m.OpenParenthesis ≡ b → prefix_of mark ≡ x → (x ≡ p.Other → ⊥) → b ≡ false
 open_is true mark x e h other = absurd (let same : mark ≡ m.OpenParenthesis = same_true the_type (search rules) mark m.OpenParenthesis e in other (sym h ∙ ap prefix_of same))
@@ -328,11 +329,11 @@ open_is false mark x e h other = refl
 not_open : (mark : Mark) (x : Prefix) → prefix_of mark ≡ x → (x ≡ p.Other → ⊥) → same_mark mark m.OpenParenthesis ≡ false
 not_open mark x h other = open_is (same_mark mark m.OpenParenthesis) mark x refl h other
 
-unary_part : (line : ℕ) (op : UnaryOperator) (a : Tree) → Reads a → IsPart (Unary line op a)
-unfolding part part_at_mark
-unary_part line op a r n k ts rest s len e free =
+prefixed_unary : (line : ℕ) (op : UnaryOperator) (a : Tree) → Reads a → IsUnary (Unary line op a)
+unfolding unary unary_at_mark
+prefixed_unary line op a r n k ts rest s len e free =
     let one : length ts ≡ suc (length s.0) = ap length s.1.is in
-    rw (s.1.is, not_open (unary_mark op) (p.Unary op) (unary_prefix op) (λ h. absurd cc), unary_prefix op) (rw (phrase_of a r n 14 s.0 rest s.2 (omega arith) (omega (arith, below_unary (follow_at rest) e))) refl)
+    rw (s.1.is, not_open (unary_mark op) (p.Unary op) (unary_prefix op) (λ h. absurd cc), unary_prefix op) (rw (expr_of a r n 14 s.0 rest s.2 (omega arith) (omega (arith, below_unary (follow_at rest) e))) refl)
 
 cast_read : (to : IntegerType) (words close rest : List Token) → AreWords words → integer_type words ≡ Some to → IsMark m.CloseParenthesis close rest → cast_type (words ++ close) ≡ Some (to, rest)
 unfolding cast_type run after_run
@@ -375,16 +376,16 @@ typed_words : (words close : List Token) (to : IntegerType) → AreWords words �
 typed_words [] close to h e = absurd cc
 typed_words (t ∷ ts) close to h e = typed_word t.kind h.0 (typed_from (word_kind_of t.kind) ts to (sym (ap only_integer (type_is t ts)) ∙ e))
 
-cast_part : (line : ℕ) (to : IntegerType) (a : Tree) → Reads a → IsPart (Cast line to a)
-unfolding part part_at_mark part_in_parentheses part_at_cast
-cast_part line to a r n k ts rest s len e free =
+cast_unary : (line : ℕ) (to : IntegerType) (a : Tree) → Reads a → IsUnary (Cast line to a)
+unfolding unary unary_at_mark unary_in_parentheses unary_at_cast
+cast_unary line to a r n k ts rest s len e free =
     let one : length ts ≡ suc (length s.0) = ap length s.1.is in
     let two = type_takes (d.Integer to) s.0 s.2.0 s.2.1 in
     let three = sign_one m.CloseParenthesis s.2.0 s.2.2.0 s.2.2.1 in
     let words = type_words s.2.1.0 (d.Integer to) s.2.1.2 in
     let spells : integer_type s.2.1.0 ≡ Some to = ap only_integer s.2.1.2 in
     rw (s.1.is, s.2.1.1, typed_words s.2.1.0 s.2.0 to words spells, cast_read to s.2.1.0 s.2.0 s.2.2.0 words spells s.2.2.1)
-    (rw (phrase_of a r n 14 s.2.2.0 rest s.2.2.2 (omega arith) (omega (arith, below_unary (follow_at rest) e))) refl)
+    (rw (expr_of a r n 14 s.2.2.0 rest s.2.2.2 (omega arith) (omega (arith, below_unary (follow_at rest) e))) refl)
 
 -- ---- lists
 
@@ -404,15 +405,15 @@ join_end (more a rest) = join_push a end rest ∙ ap (more a) (join_end rest)
 pub join_more : (a : Tree) (rest : Trees) → join (more a end) rest ≡ more a rest
 join_more a rest = join_push a end rest ∙ ap (more a) (join_end rest)
 
-abbrev Furthers : Trees → Type 0
-Furthers l = (n : ℕ) (acc : Trees) (ts rest : List Token) → SpellsMore l ts rest → length ts < n → is_at m.Comma rest ≡ false → reach rest ≡ 0 → (readers n).further acc ts ≡ Some (join acc l, rest)
+abbrev ReadsTail : Trees → Type 0
+ReadsTail l = (n : ℕ) (acc : Trees) (ts rest : List Token) → SpellsMore l ts rest → length ts < n → is_at m.Comma rest ≡ false → reach rest ≡ 0 → (readers n).exprs_tail acc ts ≡ Some (join acc l, rest)
 
 abbrev Parts : Trees → Type 0
 Parts end = Unit {0}
-Parts (more a l) = Reads a × Furthers l
+Parts (more a l) = Reads a × ReadsTail l
 
 pub record ReadsAll (l : Trees) : Type 0 where
-  pub furthers : Furthers l
+  pub reads_tail : ReadsTail l
   pub parts : Parts l
 
 -- nothing goes on an expression before a comma, or where the list ends
@@ -420,33 +421,33 @@ more_reach : (l : Trees) (ts rest : List Token) → SpellsMore l ts rest → rea
 more_reach end ts rest h e = ap reach h ∙ e
 more_reach (more a l) ts rest h e = sign_reach m.Comma ts h.0 f.Other h.1 refl
 
-further_end : (n : ℕ) (acc : Trees) (ts : List Token) → 0 < n → is_at m.Comma ts ≡ false → (readers n).further acc ts ≡ Some (acc, ts)
-unfolding further_on
-further_end zero acc ts pos h = absurd (omega arith)
-further_end (suc n) acc ts pos h = rw h refl
+exprs_tail_end : (n : ℕ) (acc : Trees) (ts : List Token) → 0 < n → is_at m.Comma ts ≡ false → (readers n).exprs_tail acc ts ≡ Some (acc, ts)
+unfolding exprs_tail_on
+exprs_tail_end zero acc ts pos h = absurd (omega arith)
+exprs_tail_end (suc n) acc ts pos h = rw h refl
 
-further_goes : (n : ℕ) (acc : Trees) (a : Tree) (ts first later : List Token) → IsMark m.Comma ts first → (readers n).phrase 1 first ≡ Some (a, later) → (readers (suc n)).further acc ts ≡ (readers n).further (add acc a) later
-unfolding further_on
-further_goes n acc a ts first later s e = rw (sign_at m.Comma m.Comma ts first s, sign_tail m.Comma ts first s) (rw e refl)
+exprs_tail_goes : (n : ℕ) (acc : Trees) (a : Tree) (ts first later : List Token) → IsMark m.Comma ts first → (readers n).expr 1 first ≡ Some (a, later) → (readers (suc n)).exprs_tail acc ts ≡ (readers n).exprs_tail (add acc a) later
+unfolding exprs_tail_on
+exprs_tail_goes n acc a ts first later s e = rw (sign_at m.Comma m.Comma ts first s, sign_tail m.Comma ts first s) (rw e refl)
 
-furthers_end : Furthers end
-furthers_end n acc ts rest s len h e = rw s (further_end n acc rest (omega arith) h)
+reads_tail_end : ReadsTail end
+reads_tail_end n acc ts rest s len h e = rw s (exprs_tail_end n acc rest (omega arith) h)
 
-furthers_more : (a : Tree) (l : Trees) → Reads a → Furthers l → Furthers (more a l)
-furthers_more a l r g zero acc ts rest s len h e = absurd (omega arith)
-furthers_more a l r g (suc n) acc ts rest s len h e =
+reads_tail_more : (a : Tree) (l : Trees) → Reads a → ReadsTail l → ReadsTail (more a l)
+reads_tail_more a l r g zero acc ts rest s len h e = absurd (omega arith)
+reads_tail_more a l r g (suc n) acc ts rest s len h e =
     let one = sign_one m.Comma ts s.0 s.1 in
-    let less = phrase_takes a 1 s.0 s.2.0 s.2.1 in
+    let less = expr_takes a 1 s.0 s.2.0 s.2.1 in
     let quiet = more_reach l s.2.0 rest s.2.2 e in
-    further_goes n acc a ts s.0 s.2.0 s.1 (phrase_of a r n 1 s.0 s.2.0 s.2.1 (omega arith) (omega arith)) ∙ g n (add acc a) s.2.0 rest s.2.2 (omega arith) h e
+    exprs_tail_goes n acc a ts s.0 s.2.0 s.1 (expr_of a r n 1 s.0 s.2.0 s.2.1 (omega arith) (omega arith)) ∙ g n (add acc a) s.2.0 rest s.2.2 (omega arith) h e
 
-listed_read : (n : ℕ) (close : Mark) (a : Tree) (l : Trees) (ts later closing rest : List Token) → Reads a → Furthers l → IsPhrase (Spells a) (level a) 1 ts later → SpellsMore l later closing → IsMark close closing rest → same_mark close close ≡ true → same_mark close m.Comma ≡ false → follow_of close ≡ f.Other → length ts < n → closed_list (readers n) close ts ≡ Some (more a l, rest)
+listed_read : (n : ℕ) (close : Mark) (a : Tree) (l : Trees) (ts later closing rest : List Token) → Reads a → ReadsTail l → IsOfLevel (Spells a) (level a) 1 ts later → SpellsMore l later closing → IsMark close closing rest → same_mark close close ≡ true → same_mark close m.Comma ≡ false → follow_of close ≡ f.Other → length ts < n → closed_list (readers n) close ts ≡ Some (more a l, rest)
 unfolding closed_list
 listed_read n close a l ts later closing rest r g h hs s self comma other len =
-    let less = phrase_takes a 1 ts later h in
+    let less = expr_takes a 1 ts later h in
     let ends = sign_reach close closing rest f.Other s other in
     let quiet = more_reach l later closing hs ends in
-    let first = phrase_of a r n 1 ts later h len (omega arith) in
+    let first = expr_of a r n 1 ts later h len (omega arith) in
     let all = g n (more a end) later closing hs (omega arith) (sign_at close m.Comma closing rest s ∙ comma) ends in
     rw first (rw all (rw (after_sign close closing rest self s, join_more a l) refl))
 
@@ -468,8 +469,8 @@ keys_read n (more a l) r ts rest s len h =
     (listed_read n m.CloseBracket a l s.0 s.2.1.0 s.2.0 rest r.parts.0 r.parts.1 s.2.1.1 s.2.1.2 s.2.2 refl refl refl (omega arith))
 
 -- no expression begins with a closing parenthesis
-close_none : (n k : ℕ) (ts rest : List Token) → IsMark m.CloseParenthesis ts rest → (readers n).phrase k ts ≡ None
-unfolding whole operand part part_at_mark
+close_none : (n k : ℕ) (ts rest : List Token) → IsMark m.CloseParenthesis ts rest → (readers n).expr k ts ≡ None
+unfolding expr_on binary unary unary_at_mark
 close_none zero k ts rest h = refl
 close_none (suc n) k ts rest h = rw h.begins.is refl
 
@@ -485,11 +486,11 @@ pub sign_there : (mark : Mark) (ts : List Token) → is_at mark ts ≡ true → 
 sign_there mark [] h = absurd cc
 sign_there mark (t ∷ ts) h = record { line = t.line; begins = record { start = t.start; stop = t.stop; is = ap (λ (k : TokenKind). token k t.start t.stop t.line ∷ ts) (mark_there t.kind mark h) } }
 
-not_close_by : (found : Bool) (n : ℕ) (ts : List Token) (x : Tree × List Token) → is_at m.CloseParenthesis ts ≡ found → (readers n).phrase 1 ts ≡ Some x → found ≡ false
+not_close_by : (found : Bool) (n : ℕ) (ts : List Token) (x : Tree × List Token) → is_at m.CloseParenthesis ts ≡ found → (readers n).expr 1 ts ≡ Some x → found ≡ false
 not_close_by true n ts x h e = let none = close_none n 1 ts (tail ts) (sign_there m.CloseParenthesis ts h) in absurd cc
 not_close_by false n ts x h e = refl
 
-first_not_close : (n : ℕ) (ts : List Token) (x : Tree × List Token) → (readers n).phrase 1 ts ≡ Some x → is_at m.CloseParenthesis ts ≡ false
+first_not_close : (n : ℕ) (ts : List Token) (x : Tree × List Token) → (readers n).expr 1 ts ≡ Some x → is_at m.CloseParenthesis ts ≡ false
 first_not_close n ts x e = not_close_by (is_at m.CloseParenthesis ts) n ts x refl e
 
 pub arguments_read : (n : ℕ) (all : Trees) → ReadsAll all → (list rest : List Token) → IsEnclosed m.OpenParenthesis m.CloseParenthesis (SpellsList all) list rest → length list ≤ n → arguments (readers n) (tail list) ≡ Some (all, rest)
@@ -500,10 +501,10 @@ arguments_read n end r list rest s len =
 arguments_read n (more a l) r list rest s len =
     let one = sign_one m.OpenParenthesis list s.0 s.1 in
     let inside = s.2.1 in
-    let less = phrase_takes a 1 s.0 inside.0 inside.1 in
+    let less = expr_takes a 1 s.0 inside.0 inside.1 in
     let ends = close_reach s.2.0 rest s.2.2 in
     let quiet = more_reach l inside.0 s.2.0 inside.2 ends in
-    let first = phrase_of a r.parts.0 n 1 s.0 inside.0 inside.1 (omega arith) (omega arith) in
+    let first = expr_of a r.parts.0 n 1 s.0 inside.0 inside.1 (omega arith) (omega arith) in
     rw (sign_tail m.OpenParenthesis list s.0 s.1, first_not_close n s.0 (a, inside.0) first)
     (listed_read n m.CloseParenthesis a l s.0 inside.0 s.2.0 rest r.parts.0 r.parts.1 inside.1 inside.2 s.2.2 refl refl refl (omega arith))
 
@@ -571,9 +572,9 @@ target_at n (v.Clause line name) all r ts rest s len h =
       read = rw s.1.2.1.0 (rw (member_read w.Clause name line ts rest s.1) (rw s.0 refl));
     }
 
--- a part that begins with a target
-named_read : (n k : ℕ) (x : Variable) (all : Trees) (ts rest : List Token) → TargetAt n x all ts rest → part (readers n) k ts ≡ follows (readers n) k (x, all) rest
-unfolding part part_at_name
+-- a unary expression that begins with a target
+named_read : (n k : ℕ) (x : Variable) (all : Trees) (ts rest : List Token) → TargetAt n x all ts rest → unary (readers n) k ts ≡ target_tail (readers n) k (x, all) rest
+unfolding unary post_at_name
 named_read n k x all ts rest h = rw (h.begins.is, h.no_call) (rw h.read refl)
 
 free_follow : (follow : Follow) → reach_of follow < 15 → opens_of follow ≡ false
@@ -585,7 +586,7 @@ free_follow f.Bracket h = absurd (omega arith)
 free_follow f.Parenthesis h = absurd (omega arith)
 free_follow f.Other h = refl
 
-read_stays : (n k : ℕ) (follow : Follow) (x : Variable) (all : Trees) (ts : List Token) → reach_of follow < 15 → (reach_of follow ≡ 1 → 2 ≤ k) → follows_by (readers n) follow k (x, all) ts ≡ Some (Read x all, ts)
+read_stays : (n k : ℕ) (follow : Follow) (x : Variable) (all : Trees) (ts : List Token) → reach_of follow < 15 → (reach_of follow ≡ 1 → 2 ≤ k) → target_tail_by (readers n) follow k (x, all) ts ≡ Some (Read x all, ts)
 read_stays n k (f.Infix op) x all ts h free = refl
 read_stays n k (f.Assign op) x all ts h free = rw (lt-leb k 1 (free refl)) refl
 read_stays n k (f.Step step) x all ts h free = absurd (omega arith)
@@ -594,117 +595,117 @@ read_stays n k f.Bracket x all ts h free = refl
 read_stays n k f.Parenthesis x all ts h free = refl
 read_stays n k f.Other x all ts h free = refl
 
-read_part : (x : Variable) (all : Trees) → ReadsAll all → IsPart (Read x all)
-unfolding follows
-read_part x all r n k ts rest s len e free =
+read_unary : (x : Variable) (all : Trees) → ReadsAll all → IsUnary (Read x all)
+unfolding target_tail
+read_unary x all r n k ts rest s len e free =
     named_read n k x all ts rest (target_at n x all r ts rest s (omega arith) (free_follow (follow_at rest) e)) ∙ read_stays n k (follow_at rest) x all rest e free
 
-after_part : (x : Variable) (all : Trees) (step : Step) → ReadsAll all → IsPart (After x all step)
-unfolding follows
-after_part x all step r n k ts rest s len e free =
+after_unary : (x : Variable) (all : Trees) (step : Step) → ReadsAll all → IsUnary (After x all step)
+unfolding target_tail
+after_unary x all step r n k ts rest s len e free =
     let there = sign_follow (step_mark step) s.0 rest s.2 ∙ step_follow step in
     named_read n k x all ts s.0 (target_at n x all r ts s.0 s.1 (omega arith) (ap opens_of there)) ∙ rw (there, sign_tail (step_mark step) s.0 rest s.2) refl
 
-stepped_read : (n line : ℕ) (step : Step) (x : Variable) (all : Trees) (ts rest : List Token) → TargetAt n x all ts rest → part_at_step (readers n) line step ts ≡ Some (Before line step x all, rest)
-unfolding part_at_step
+stepped_read : (n line : ℕ) (step : Step) (x : Variable) (all : Trees) (ts rest : List Token) → TargetAt n x all ts rest → unary_at_step (readers n) line step ts ≡ Some (Before line step x all, rest)
+unfolding unary_at_step
 stepped_read n line step x all ts rest h = rw h.begins.is (rw h.read refl)
 
-before_part : (line : ℕ) (step : Step) (x : Variable) (all : Trees) → ReadsAll all → IsPart (Before line step x all)
-unfolding part part_at_mark
-before_part line step x all r n k ts rest s len e free =
+before_unary : (line : ℕ) (step : Step) (x : Variable) (all : Trees) → ReadsAll all → IsUnary (Before line step x all)
+unfolding unary unary_at_mark
+before_unary line step x all r n k ts rest s len e free =
     let one : length ts ≡ suc (length s.0) = ap length s.1.is in
     rw (s.1.is, not_open (step_mark step) (p.Step step) (step_prefix step) (λ h. absurd cc), step_prefix step) (stepped_read n line step x all s.0 rest (target_at n x all r s.0 rest s.2 (omega arith) (free_follow (follow_at rest) e)))
 
-call_part : (line : ℕ) (name : List ℕ) (all : Trees) → ReadsAll all → IsPart (Call line name all)
-unfolding part part_at_name
-call_part line name all r n k ts rest s len e free =
+call_unary : (line : ℕ) (name : List ℕ) (all : Trees) → ReadsAll all → IsUnary (Call line name all)
+unfolding unary post_at_name
+call_unary line name all r n k ts rest s len e free =
     let one = word_one w.Plain name line ts s.0 s.1 in
     let there = sign_follow m.OpenParenthesis s.0 s.2.0 s.2.1 in
     rw s.1.1.is (rw (s.1.0, there) (rw (arguments_read n all r s.0 rest s.2 (omega arith)) refl))
 
 -- ---- assignment
 
-assign_part : (op : AssignOperator) (x : Variable) (all : Trees) (a : Tree) → ReadsAll all → Reads a → (n k : ℕ) (ts rest : List Token) → Spells (Assign op x all a) ts rest → k ≤ 1 → length ts ≤ n → reach rest < k → part (readers n) k ts ≡ Some (Assign op x all a, rest)
-unfolding follows
-assign_part op x all a r ra n k ts rest s le len e =
+assign_unary : (op : AssignOperator) (x : Variable) (all : Trees) (a : Tree) → ReadsAll all → Reads a → (n k : ℕ) (ts rest : List Token) → Spells (Assign op x all a) ts rest → k ≤ 1 → length ts ≤ n → reach rest < k → unary (readers n) k ts ≡ Some (Assign op x all a, rest)
+unfolding target_tail
+assign_unary op x all a r ra n k ts rest s le len e =
     let there = sign_follow (assign_mark op) s.0 s.2.0 s.2.1 ∙ assign_follow op in
     let one = sign_one (assign_mark op) s.0 s.2.0 s.2.1 in
     let less = target_takes x all ts s.0 s.1 in
     named_read n k x all ts s.0 (target_at n x all r ts s.0 s.1 (omega arith) (ap opens_of there))
-    ∙ rw (there, le-leb k 1 le, sign_tail (assign_mark op) s.0 s.2.0 s.2.1) (rw (phrase_of a ra n 1 s.2.0 rest s.2.2 (omega arith) (omega arith)) refl)
+    ∙ rw (there, le-leb k 1 le, sign_tail (assign_mark op) s.0 s.2.0 s.2.1) (rw (expr_of a ra n 1 s.2.0 rest s.2.2 (omega arith) (omega arith)) refl)
 
-assign_phrases : (op : AssignOperator) (x : Variable) (all : Trees) (a : Tree) → ReadsAll all → Reads a → Phrases (Assign op x all a)
-assign_phrases op x all a r ra zero k ts rest s le len e = absurd (omega arith)
-assign_phrases op x all a r ra (suc n) k ts rest s le len e =
+assign_reads_expr : (op : AssignOperator) (x : Variable) (all : Trees) (a : Tree) → ReadsAll all → Reads a → ReadsExpr (Assign op x all a)
+assign_reads_expr op x all a r ra zero k ts rest s le len e = absurd (omega arith)
+assign_reads_expr op x all a r ra (suc n) k ts rest s le len e =
     let less = takes (Assign op x all a) ts rest s in
-    part_ends n k ts (Assign op x all a) rest (assign_part op x all a r ra n k ts rest s le (omega arith) e) (omega arith) e
+    unary_ends n k ts (Assign op x all a) rest (assign_unary op x all a r ra n k ts rest s le (omega arith) e) (omega arith) e
 
 -- ---- operators
 
-climb_goes : (n k : ℕ) (op : BinaryOperator) (a b : Tree) (ts right rest : List Token) → IsMark (binary_mark op) ts right → k ≤ level_of op → (readers n).phrase (suc (level_of op)) right ≡ Some (b, rest) → (readers (suc n)).climb k a ts ≡ (readers n).climb k (Binary op a b) rest
-unfolding climb_on
-climb_goes n k op a b ts right rest s le e = rw (sign_follow (binary_mark op) ts right s, binary_follow op, sign_tail (binary_mark op) ts right s, le-leb k (level_of op) le) (rw e refl)
+binary_tail_goes : (n k : ℕ) (op : BinaryOperator) (a b : Tree) (ts right rest : List Token) → IsMark (binary_mark op) ts right → k ≤ level_of op → (readers n).expr (suc (level_of op)) right ≡ Some (b, rest) → (readers (suc n)).binary_tail k a ts ≡ (readers n).binary_tail k (Binary op a b) rest
+unfolding binary_tail_on
+binary_tail_goes n k op a b ts right rest s le e = rw (sign_follow (binary_mark op) ts right s, binary_follow op, sign_tail (binary_mark op) ts right s, le-leb k (level_of op) le) (rw e refl)
 
-climbed_by : (left n k : ℕ) (op : BinaryOperator) (a b : Tree) (ts rest middle right : List Token) → Reads b → IsMark (binary_mark op) middle right → IsPhrase (Spells b) (level b) (suc (level_of op)) right rest → k ≤ level_of op → reach rest ≤ level_of op → length middle < left → left ≤ n → operand (readers n) k ts ≡ (readers left).climb (max k 3) a middle → Climbed n k (Binary op a b) ts rest
-climbed_by zero n k op a b ts rest middle right rb s h le e len within is = absurd (omega arith)
-climbed_by (suc left) n k op a b ts rest middle right rb s h le e len within is =
+binary_tail_of : (left n k : ℕ) (op : BinaryOperator) (a b : Tree) (ts rest middle right : List Token) → Reads b → IsMark (binary_mark op) middle right → IsOfLevel (Spells b) (level b) (suc (level_of op)) right rest → k ≤ level_of op → reach rest ≤ level_of op → length middle < left → left ≤ n → binary (readers n) k ts ≡ (readers left).binary_tail (max k 3) a middle → BinaryTail n k (Binary op a b) ts rest
+binary_tail_of zero n k op a b ts rest middle right rb s h le e len within is = absurd (omega arith)
+binary_tail_of (suc left) n k op a b ts rest middle right rb s h le e len within is =
     let one = sign_one (binary_mark op) middle right s in
-    let less = phrase_takes b (suc (level_of op)) right rest h in
+    let less = expr_takes b (suc (level_of op)) right rest h in
     let high = level_high op in
     record {
       left = left;
       enough = omega arith;
       within = omega arith;
-      is = is ∙ climb_goes left (max k 3) op a b middle right rest s (omega arith) (phrase_of b rb left (suc (level_of op)) right rest h (omega arith) (omega arith));
+      is = is ∙ binary_tail_goes left (max k 3) op a b middle right rest s (omega arith) (expr_of b rb left (suc (level_of op)) right rest h (omega arith) (omega arith));
     }
 
-binary_climbs : (op : BinaryOperator) (a b : Tree) → Reads a → Reads b → Climbs (Binary op a b)
-binary_climbs op a b ra rb n k l ts rest s low most high le len e free =
+binary_reads : (op : BinaryOperator) (a b : Tree) → Reads a → Reads b → ReadsBinary (Binary op a b)
+binary_reads op a b ra rb n k l ts rest s low most high le len e free =
     let there = sign_reach (binary_mark op) s.0 s.2.0 (f.Infix op) s.2.1 (binary_follow op) in
     let lowest = level_high op in
     let highest = level_below op in
-    let first = climbs_of a ra n k (level_of op) ts s.0 s.1 lowest highest (omega arith) len (omega arith) (λ one. absurd (omega arith)) in
-    climbed_by first.left n k op a b ts rest s.0 s.2.0 rb s.2.1 s.2.2 (omega arith) (omega arith) first.enough first.within first.is
+    let first = reads_binary_of a ra n k (level_of op) ts s.0 s.1 lowest highest (omega arith) len (omega arith) (λ one. absurd (omega arith)) in
+    binary_tail_of first.left n k op a b ts rest s.0 s.2.0 rb s.2.1 s.2.2 (omega arith) (omega arith) first.enough first.within first.is
 
 -- ---- choice
 
-choice_goes : (n k : ℕ) (test a b : Tree) (question first colon second rest : List Token) → k ≤ 2 → IsMark m.Question question first → (readers n).phrase 1 first ≡ Some (a, colon) → IsMark m.Colon colon second → (readers n).phrase 2 second ≡ Some (b, rest) → choice (readers n) k test question ≡ Some (Choice test a b, rest)
-unfolding choice alternatives
-choice_goes n k test a b question first colon second rest le q e s g =
+cond_tail_goes : (n k : ℕ) (test a b : Tree) (question first colon second rest : List Token) → k ≤ 2 → IsMark m.Question question first → (readers n).expr 1 first ≡ Some (a, colon) → IsMark m.Colon colon second → (readers n).expr 2 second ≡ Some (b, rest) → cond_tail (readers n) k test question ≡ Some (Choice test a b, rest)
+unfolding cond_tail alternatives
+cond_tail_goes n k test a b question first colon second rest le q e s g =
     rw (le-leb k 2 le, sign_follow m.Question question first q, sign_tail m.Question question first q) (rw e (rw (after_sign m.Colon colon second refl s) (rw g refl)))
 
-choice_phrases : (test a b : Tree) → Reads test → Reads a → Reads b → Phrases (Choice test a b)
-choice_phrases test a b rt ra rb zero k ts rest s le len e = absurd (omega arith)
-choice_phrases test a b rt ra rb (suc n) k ts rest s le len e =
+cond_reads_expr : (test a b : Tree) → Reads test → Reads a → Reads b → ReadsExpr (Choice test a b)
+cond_reads_expr test a b rt ra rb zero k ts rest s le len e = absurd (omega arith)
+cond_reads_expr test a b rt ra rb (suc n) k ts rest s le len e =
     let u = s.2.2 in
     let v = u.2 in
     let at_question = sign_reach m.Question s.0 s.2.0 f.Question s.2.1 refl in
     let at_colon = sign_reach m.Colon u.0 v.0 f.Other v.1 refl in
-    let one = phrase_takes test 3 ts s.0 s.1 in
+    let one = expr_takes test 3 ts s.0 s.1 in
     let two = sign_one m.Question s.0 s.2.0 s.2.1 in
-    let three = phrase_takes a 1 s.2.0 u.0 u.1 in
+    let three = expr_takes a 1 s.2.0 u.0 u.1 in
     let four = sign_one m.Colon u.0 v.0 v.1 in
-    let head = climbs_of test rt n k 3 ts s.0 s.1 (lit≤ tt) (lit≤ tt) (omega arith) (omega arith) (omega arith) (λ h. absurd (omega arith)) in
+    let head = reads_binary_of test rt n k 3 ts s.0 s.1 (lit≤ tt) (lit≤ tt) (omega arith) (omega arith) (omega arith) (λ h. absurd (omega arith)) in
     let enough = head.enough in
-    let first = phrase_of a ra n 1 s.2.0 u.0 u.1 (omega arith) (omega arith) in
-    let second = phrase_of b rb n 2 v.0 rest v.2 (omega arith) (omega arith) in
-    whole_of n k ts test s.0 (head.is ∙ climb_ends head.left (max k 3) test s.0 (omega arith) (omega arith)) ∙ choice_goes n k test a b s.0 s.2.0 u.0 v.0 rest le s.2.1 first v.1 second
+    let first = expr_of a ra n 1 s.2.0 u.0 u.1 (omega arith) (omega arith) in
+    let second = expr_of b rb n 2 v.0 rest v.2 (omega arith) (omega arith) in
+    expr_on_of n k ts test s.0 (head.is ∙ binary_tail_ends head.left (max k 3) test s.0 (omega arith) (omega arith)) ∙ cond_tail_goes n k test a b s.0 s.2.0 u.0 v.0 rest le s.2.1 first v.1 second
 
 -- ---- all
 
 mutual
   pub reads : (t : Tree) → Reads t
   reads (Known line constant) = reads_known line constant
-  reads (Read x keys) = reads_part (Read x keys) (lit≤ tt) (read_part x keys (reads_all keys))
-  reads (Call line name all) = reads_part (Call line name all) (lit≤ tt) (call_part line name all (reads_all all))
-  reads (Unary line op a) = reads_part (Unary line op a) (lit≤ tt) (unary_part line op a (reads a))
-  reads (Cast line to a) = reads_part (Cast line to a) (lit≤ tt) (cast_part line to a (reads a))
-  reads (Before line step x keys) = reads_part (Before line step x keys) (lit≤ tt) (before_part line step x keys (reads_all keys))
-  reads (After x keys step) = reads_part (After x keys step) (lit≤ tt) (after_part x keys step (reads_all keys))
-  reads (Binary op a b) = reads_joined (Binary op a b) (level_high op) (level_below op) (binary_climbs op a b (reads a) (reads b))
-  reads (Choice test a b) = reads_low (Choice test a b) (lit< tt) (choice_phrases test a b (reads test) (reads a) (reads b))
-  reads (Assign op x keys a) = reads_low (Assign op x keys a) (lit< tt) (assign_phrases op x keys a (reads_all keys) (reads a))
+  reads (Read x keys) = reads_unary (Read x keys) (lit≤ tt) (read_unary x keys (reads_all keys))
+  reads (Call line name all) = reads_unary (Call line name all) (lit≤ tt) (call_unary line name all (reads_all all))
+  reads (Unary line op a) = reads_unary (Unary line op a) (lit≤ tt) (prefixed_unary line op a (reads a))
+  reads (Cast line to a) = reads_unary (Cast line to a) (lit≤ tt) (cast_unary line to a (reads a))
+  reads (Before line step x keys) = reads_unary (Before line step x keys) (lit≤ tt) (before_unary line step x keys (reads_all keys))
+  reads (After x keys step) = reads_unary (After x keys step) (lit≤ tt) (after_unary x keys step (reads_all keys))
+  reads (Binary op a b) = reads_joined (Binary op a b) (level_high op) (level_below op) (binary_reads op a b (reads a) (reads b))
+  reads (Choice test a b) = reads_low (Choice test a b) (lit< tt) (cond_reads_expr test a b (reads test) (reads a) (reads b))
+  reads (Assign op x keys a) = reads_low (Assign op x keys a) (lit< tt) (assign_reads_expr op x keys a (reads_all keys) (reads a))
 
   pub reads_all : (l : Trees) → ReadsAll l
-  reads_all end = record { furthers = furthers_end; parts = tt }
-  reads_all (more a l) = record { furthers = furthers_more a l (reads a) (reads_all l).furthers; parts = (reads a, (reads_all l).furthers) }
+  reads_all end = record { reads_tail = reads_tail_end; parts = tt }
+  reads_all (more a l) = record { reads_tail = reads_tail_more a l (reads a) (reads_all l).reads_tail; parts = (reads a, (reads_all l).reads_tail) }

@@ -20,25 +20,25 @@ use Rattle.d_parser.specs.Words.{word_kind}
 use Rattle.d_parser.specs.Steps.Words.{run, after_run}
 use Rattle.d_parser.specs.Steps.Marks.{prefix_of, is_at, same_mark, tail}
 use Rattle.d_parser.specs.Grammar.{token, IsToken, IsMark, IsType}
-use Rattle.d_parser.specs.Script.{EachAfter, SeparatedBy, IsStmt, IsSlot, present, AreStmts}
+use Rattle.d_parser.specs.Script.{EachAfter, SeparatedBy, IsStmt, IsOptionalStmt, present, AreStmts}
 use Rattle.d_parser.specs.Script.{IsDescription, IsPredicate, IsClause, AreKeyTypes, IsDeclared}
 use Rattle.d_parser.specs.Script.{IsItem, IsScript}
-use Rattle.d_parser.specs.Steps.Reading.{◌>>=◌, readers, arguments, part, part_at_mark, operand}
-use Rattle.d_parser.specs.Steps.Reading.{whole}
+use Rattle.d_parser.specs.Steps.Reading.{◌>>=◌, readers, arguments, unary, unary_at_mark, binary}
+use Rattle.d_parser.specs.Steps.Reading.{expr_on}
 use Rattle.d_parser.specs.Steps.ReadingScripts.{any_word, aggregating_word, aggregation, stmt_by}
 use Rattle.d_parser.specs.Steps.ReadingScripts.{stmt, ends_stmt}
-use Rattle.d_parser.specs.Steps.ReadingScripts.{slot}
-use Rattle.d_parser.specs.Steps.ReadingScripts.{further_stmts, stmts, description, descriptions_on}
-use Rattle.d_parser.specs.Steps.ReadingScripts.{further_descriptions, descriptions_reader}
+use Rattle.d_parser.specs.Steps.ReadingScripts.{optional_stmt}
+use Rattle.d_parser.specs.Steps.ReadingScripts.{stmts_tail, stmts, description, descriptions_tail_on}
+use Rattle.d_parser.specs.Steps.ReadingScripts.{descriptions_tail, descriptions_reader}
 use Rattle.d_parser.specs.Steps.ReadingScripts.{predicate_reader, clause_reader}
-use Rattle.d_parser.specs.Steps.ReadingScripts.{whole_type, types_on, further_types, key_types}
+use Rattle.d_parser.specs.Steps.ReadingScripts.{declared_type, types_tail_on, types_tail, key_types}
 use Rattle.d_parser.specs.Steps.ReadingScripts.{last_apart, typed_name, of_thread, of_clause}
 use Rattle.d_parser.specs.Steps.ReadingScripts.{declaration_by, item_reader, items_reader}
 use Rattle.d_parser.specs.Steps.ReadingScripts.{script_reader}
 use Rattle.d_parser.proofs.Takes.{sign_one, word_one, type_takes, keys_take, between_takes}
 use Rattle.d_parser.proofs.Counts.{stmt_one, predicate_uses, descriptions_use, declaration_uses}
 use Rattle.d_parser.proofs.Complete.{reach, opens_of, sign_there, sign_follow, sign_tail, sign_at}
-use Rattle.d_parser.proofs.Complete.{sign_reach, after_sign, reads, reads_all, phrase_of, keys_read}
+use Rattle.d_parser.proofs.Complete.{sign_reach, after_sign, reads, reads_all, expr_of, keys_read}
 use Rattle.d_parser.proofs.Complete.{arguments_read}
 use Rattle.d_parser.proofs.Descriptions.{described}
 use Rattle.d_parser.proofs.Runs.{run_is, later_is}
@@ -47,20 +47,20 @@ use Rattle.d_parser.proofs.Types.{type_words}
 -- ---- statements
 
 -- no expression begins with such a mark
-mark_none : (n k : ℕ) (mark : Mark) (ts rest : List Token) → prefix_of mark ≡ p.Other → same_mark mark m.OpenParenthesis ≡ false → IsMark mark ts rest → (readers n).phrase k ts ≡ None
-unfolding whole operand part part_at_mark
+mark_none : (n k : ℕ) (mark : Mark) (ts rest : List Token) → prefix_of mark ≡ p.Other → same_mark mark m.OpenParenthesis ≡ false → IsMark mark ts rest → (readers n).expr k ts ≡ None
+unfolding expr_on binary unary unary_at_mark
 mark_none zero k mark ts rest e o h = refl
 mark_none (suc n) k mark ts rest e o h = rw h.begins.is (rw (o, e) refl)
 
-not_at_by : (found : Bool) (n : ℕ) (mark : Mark) (ts : List Token) (x : Tree × List Token) → prefix_of mark ≡ p.Other → same_mark mark m.OpenParenthesis ≡ false → is_at mark ts ≡ found → (readers n).phrase 1 ts ≡ Some x → found ≡ false
+not_at_by : (found : Bool) (n : ℕ) (mark : Mark) (ts : List Token) (x : Tree × List Token) → prefix_of mark ≡ p.Other → same_mark mark m.OpenParenthesis ≡ false → is_at mark ts ≡ found → (readers n).expr 1 ts ≡ Some x → found ≡ false
 not_at_by true n mark ts x e o h r = let none = mark_none n 1 mark ts (tail ts) e o (sign_there mark ts h) in absurd cc
 not_at_by false n mark ts x e o h r = refl
 
-not_at : (n : ℕ) (mark : Mark) (ts : List Token) (x : Tree × List Token) → prefix_of mark ≡ p.Other → same_mark mark m.OpenParenthesis ≡ false → (readers n).phrase 1 ts ≡ Some x → is_at mark ts ≡ false
+not_at : (n : ℕ) (mark : Mark) (ts : List Token) (x : Tree × List Token) → prefix_of mark ≡ p.Other → same_mark mark m.OpenParenthesis ≡ false → (readers n).expr 1 ts ≡ Some x → is_at mark ts ≡ false
 not_at n mark ts x e o r = not_at_by (is_at mark ts) n mark ts x e o refl r
 
-expression_by : (n : ℕ) (k : TokenKind) (start stop line : ℕ) (ts : List Token) (x : Tree × List Token) → (readers n).phrase 1 (token k start stop line ∷ ts) ≡ Some x → stmt_by n k line ts (token k start stop line ∷ ts) ≡ Some (Expression x.0, x.1)
-unfolding whole operand part
+expression_by : (n : ℕ) (k : TokenKind) (start stop line : ℕ) (ts : List Token) (x : Tree × List Token) → (readers n).expr 1 (token k start stop line ∷ ts) ≡ Some x → stmt_by n k line ts (token k start stop line ∷ ts) ≡ Some (Expression x.0, x.1)
+unfolding expr_on binary unary
 expression_by zero k start stop line ts x e = absurd cc
 expression_by (suc n) (kind.AggregationName name) start stop line ts x e = absurd cc
 expression_by (suc n) (kind.Word name) start stop line ts x e = rw e refl
@@ -69,8 +69,8 @@ expression_by (suc n) (kind.Number value suffix) start stop line ts x e = rw e r
 expression_by (suc n) (kind.TextConstant bytes) start stop line ts x e = rw e refl
 expression_by (suc n) (kind.Mark mark) start stop line ts x e = rw e refl
 
-expression_stmt : (n : ℕ) (ts : List Token) (x : Tree × List Token) → (readers n).phrase 1 ts ≡ Some x → stmt n ts ≡ Some (Expression x.0, x.1)
-unfolding stmt whole operand part
+expression_stmt : (n : ℕ) (ts : List Token) (x : Tree × List Token) → (readers n).expr 1 ts ≡ Some x → stmt n ts ≡ Some (Expression x.0, x.1)
+unfolding stmt expr_on binary unary
 expression_stmt zero [] x e = absurd cc
 expression_stmt (suc n) [] x e = absurd cc
 expression_stmt n (t ∷ ts) x e = expression_by n t.kind t.start t.stop t.line ts x e
@@ -100,7 +100,7 @@ aggregation_read n line name all function list ts rest h len =
 aggregation_starts : (line : ℕ) (name : List ℕ) (mark : Mark) (ts rest : List Token) → IsToken (kind.AggregationName name) line ts rest → is_at mark ts ≡ false
 aggregation_starts line name mark ts rest h = ap (is_at mark) h.is
 
--- what a slot needs after it
+-- what an optional statement needs after it
 pub record Stops (ts : List Token) : Type 0 where
   pub ends : ends_stmt ts ≡ true
   pub quiet : reach ts ≡ 0
@@ -108,51 +108,51 @@ pub record Stops (ts : List Token) : Type 0 where
 brace_stops : (ts rest : List Token) → IsMark m.CloseBrace ts rest → Stops ts
 brace_stops ts rest s = record { ends = rw (sign_at m.CloseBrace m.Semicolon ts rest s, sign_at m.CloseBrace m.CloseBrace ts rest s) refl; quiet = sign_reach m.CloseBrace ts rest f.Other s refl }
 
-further_stops : (slots : List (Option StmtTree)) (ts close rest : List Token) → EachAfter m.Semicolon IsSlot slots ts close → IsMark m.CloseBrace close rest → Stops ts
-further_stops [] ts close rest h s = subst Stops (sym h) (brace_stops close rest s)
-further_stops (o ∷ slots) ts close rest h s = record { ends = rw (sign_at m.Semicolon m.Semicolon ts h.0 h.1) refl; quiet = sign_reach m.Semicolon ts h.0 f.Other h.1 refl }
+stmts_tail_stops : (optionals : List (Option StmtTree)) (ts close rest : List Token) → EachAfter m.Semicolon IsOptionalStmt optionals ts close → IsMark m.CloseBrace close rest → Stops ts
+stmts_tail_stops [] ts close rest h s = subst Stops (sym h) (brace_stops close rest s)
+stmts_tail_stops (o ∷ optionals) ts close rest h s = record { ends = rw (sign_at m.Semicolon m.Semicolon ts h.0 h.1) refl; quiet = sign_reach m.Semicolon ts h.0 f.Other h.1 refl }
 
 stmt_read : (n : ℕ) (s : StmtTree) (ts rest : List Token) → IsStmt s ts rest → length ts < n → reach rest ≡ 0 → (stmt n ts ≡ Some (s, rest)) × (ends_stmt ts ≡ false)
 stmt_read n (Expression t) ts rest h len e =
-    let r = phrase_of t (reads t) n 1 ts rest h len (omega arith) in
+    let r = expr_of t (reads t) n 1 ts rest h len (omega arith) in
     (expression_stmt n ts (t, rest) r, rw (not_at n m.Semicolon ts (t, rest) refl refl r, not_at n m.CloseBrace ts (t, rest) refl refl r) refl)
 stmt_read n (Aggregation line name all function list) ts rest h len e =
     (aggregation_read n line name all function list ts rest h (omega arith), rw (aggregation_starts line name m.Semicolon ts h.1.0 h.1.1, aggregation_starts line name m.CloseBrace ts h.1.0 h.1.1) refl)
 
-slot_read : (n : ℕ) (all : List StmtTree) (o : Option StmtTree) (ts later : List Token) → IsSlot o ts later → Stops later → length ts < n → slot n all ts ≡ Some (all ++ present (o ∷ []), later)
-unfolding slot
-slot_read n all None ts later h s len = rw (h, s.ends, append-nil all) refl
-slot_read n all (Some t) ts later h s len = let r = stmt_read n t ts later h len s.quiet in rw r.1 (rw r.0 refl)
+optional_read : (n : ℕ) (all : List StmtTree) (o : Option StmtTree) (ts later : List Token) → IsOptionalStmt o ts later → Stops later → length ts < n → optional_stmt n all ts ≡ Some (all ++ present (o ∷ []), later)
+unfolding optional_stmt
+optional_read n all None ts later h s len = rw (h, s.ends, append-nil all) refl
+optional_read n all (Some t) ts later h s len = let r = stmt_read n t ts later h len s.quiet in rw r.1 (rw r.0 refl)
 
-slot_takes : (o : Option StmtTree) (ts rest : List Token) → IsSlot o ts rest → length rest ≤ length ts
-slot_takes None ts rest h = let e : length ts ≡ length rest = ap length h in omega arith
-slot_takes (Some s) ts rest h = let less = stmt_one s ts rest h in omega arith
+optional_takes : (o : Option StmtTree) (ts rest : List Token) → IsOptionalStmt o ts rest → length rest ≤ length ts
+optional_takes None ts rest h = let e : length ts ≡ length rest = ap length h in omega arith
+optional_takes (Some s) ts rest h = let less = stmt_one s ts rest h in omega arith
 
-present_more : (o : Option StmtTree) (slots : List (Option StmtTree)) → present (o ∷ []) ++ present slots ≡ present (o ∷ slots)
-present_more None slots = refl
-present_more (Some s) slots = refl
+present_more : (o : Option StmtTree) (optionals : List (Option StmtTree)) → present (o ∷ []) ++ present optionals ≡ present (o ∷ optionals)
+present_more None optionals = refl
+present_more (Some s) optionals = refl
 
-further_read : (slots : List (Option StmtTree)) (n turns : ℕ) (all : List StmtTree) (ts close rest : List Token) → EachAfter m.Semicolon IsSlot slots ts close → IsMark m.CloseBrace close rest → length ts < n → length ts < turns → further_stmts n turns all ts ≡ Some (all ++ present slots, rest)
-unfolding further_stmts
-further_read slots n zero all ts close rest h s len t = absurd (omega arith)
-further_read [] n (suc turns) all ts close rest h s len t = rw h (rw (sign_at m.CloseBrace m.CloseBrace close rest s, sign_tail m.CloseBrace close rest s, append-nil all) refl)
-further_read (o ∷ slots) n (suc turns) all ts close rest h s len t =
+stmts_tail_read : (optionals : List (Option StmtTree)) (n turns : ℕ) (all : List StmtTree) (ts close rest : List Token) → EachAfter m.Semicolon IsOptionalStmt optionals ts close → IsMark m.CloseBrace close rest → length ts < n → length ts < turns → stmts_tail n turns all ts ≡ Some (all ++ present optionals, rest)
+unfolding stmts_tail
+stmts_tail_read optionals n zero all ts close rest h s len t = absurd (omega arith)
+stmts_tail_read [] n (suc turns) all ts close rest h s len t = rw h (rw (sign_at m.CloseBrace m.CloseBrace close rest s, sign_tail m.CloseBrace close rest s, append-nil all) refl)
+stmts_tail_read (o ∷ optionals) n (suc turns) all ts close rest h s len t =
     let one = sign_one m.Semicolon ts h.0 h.1 in
-    let two = slot_takes o h.0 h.2.0 h.2.1 in
-    let first = slot_read n all o h.0 h.2.0 h.2.1 (further_stops slots h.2.0 close rest h.2.2 s) (omega arith) in
-    let others = further_read slots n turns (all ++ present (o ∷ [])) h.2.0 close rest h.2.2 s (omega arith) (omega arith) in
-    rw (sign_at m.Semicolon m.CloseBrace ts h.0 h.1) (rw (after_sign m.Semicolon ts h.0 refl h.1) (rw first (others ∙ ap (λ (xs : List StmtTree). Some (xs, rest)) (append_assoc all (present (o ∷ [])) (present slots) ∙ ap (λ (xs : List StmtTree). all ++ xs) (present_more o slots)))))
+    let two = optional_takes o h.0 h.2.0 h.2.1 in
+    let first = optional_read n all o h.0 h.2.0 h.2.1 (stmts_tail_stops optionals h.2.0 close rest h.2.2 s) (omega arith) in
+    let others = stmts_tail_read optionals n turns (all ++ present (o ∷ [])) h.2.0 close rest h.2.2 s (omega arith) (omega arith) in
+    rw (sign_at m.Semicolon m.CloseBrace ts h.0 h.1) (rw (after_sign m.Semicolon ts h.0 refl h.1) (rw first (others ∙ ap (λ (xs : List StmtTree). Some (xs, rest)) (append_assoc all (present (o ∷ [])) (present optionals) ∙ ap (λ (xs : List StmtTree). all ++ xs) (present_more o optionals)))))
 
-slots_read : (slots : List (Option StmtTree)) (n : ℕ) (ts close rest : List Token) → SeparatedBy m.Semicolon IsSlot slots ts close → IsMark m.CloseBrace close rest → length ts < n → stmts n ts ≡ Some (present slots, rest)
+optionals_read : (optionals : List (Option StmtTree)) (n : ℕ) (ts close rest : List Token) → SeparatedBy m.Semicolon IsOptionalStmt optionals ts close → IsMark m.CloseBrace close rest → length ts < n → stmts n ts ≡ Some (present optionals, rest)
 unfolding stmts
-slots_read [] n ts close rest h s len = absurd h
-slots_read (o ∷ slots) n ts close rest h s len =
-    let two = slot_takes o ts h.0 h.1 in
-    rw (slot_read n [] o ts h.0 h.1 (further_stops slots h.0 close rest h.2 s) len)
-    (further_read slots n n (present (o ∷ [])) h.0 close rest h.2 s (omega arith) (omega arith) ∙ ap (λ (xs : List StmtTree). Some (xs, rest)) (present_more o slots))
+optionals_read [] n ts close rest h s len = absurd h
+optionals_read (o ∷ optionals) n ts close rest h s len =
+    let two = optional_takes o ts h.0 h.1 in
+    rw (optional_read n [] o ts h.0 h.1 (stmts_tail_stops optionals h.0 close rest h.2 s) len)
+    (stmts_tail_read optionals n n (present (o ∷ [])) h.0 close rest h.2 s (omega arith) (omega arith) ∙ ap (λ (xs : List StmtTree). Some (xs, rest)) (present_more o optionals))
 
 stmts_read : (n : ℕ) (all : List StmtTree) (ts close rest : List Token) → AreStmts all ts close → IsMark m.CloseBrace close rest → length ts < n → stmts n ts ≡ Some (all, rest)
-stmts_read n all ts close rest h s len = slots_read h.0 n ts close rest h.2 s len ∙ ap (λ (xs : List StmtTree). Some (xs, rest)) (sym h.1)
+stmts_read n all ts close rest h s len = optionals_read h.0 n ts close rest h.2 s len ∙ ap (λ (xs : List StmtTree). Some (xs, rest)) (sym h.1)
 
 -- ---- clauses
 
@@ -160,8 +160,8 @@ description_read : (d : Description) (ts rest : List Token) → IsDescription d 
 unfolding description
 description_read d ts rest h = rw h.begins.is (rw (described d ts rest h) refl)
 
-descriptions_read : (ds : List Description) (turns : ℕ) (all : List Description) (ts rest : List Token) → EachAfter m.Comma IsDescription ds ts rest → is_at m.Comma rest ≡ false → length ts < turns → further_descriptions turns all ts ≡ Some (all ++ ds, rest)
-unfolding descriptions_on
+descriptions_read : (ds : List Description) (turns : ℕ) (all : List Description) (ts rest : List Token) → EachAfter m.Comma IsDescription ds ts rest → is_at m.Comma rest ≡ false → length ts < turns → descriptions_tail turns all ts ≡ Some (all ++ ds, rest)
+unfolding descriptions_tail_on
 descriptions_read ds zero all ts rest h e len = absurd (omega arith)
 descriptions_read [] (suc turns) all ts rest h e len = rw (h, e, append-nil all) refl
 descriptions_read (d ∷ ds) (suc turns) all ts rest h e len =
@@ -189,7 +189,7 @@ predicate_read n None ts rest more h s len = rw (h, sign_at m.OpenBrace m.Slash 
 predicate_read n (Some t) ts rest more h s len =
     let one = sign_one m.Slash ts h.0 h.1 in
     let quiet = sign_reach m.ClosingSlash h.2.0 rest f.Other h.2.2 refl in
-    rw (sign_at m.Slash m.Slash ts h.0 h.1, sign_tail m.Slash ts h.0 h.1) (rw (phrase_of t (reads t) n 1 h.0 h.2.0 h.2.1 (omega arith) (omega arith)) (rw (after_sign m.ClosingSlash h.2.0 rest refl h.2.2) refl))
+    rw (sign_at m.Slash m.Slash ts h.0 h.1, sign_tail m.Slash ts h.0 h.1) (rw (expr_of t (reads t) n 1 h.0 h.2.0 h.2.1 (omega arith) (omega arith)) (rw (after_sign m.ClosingSlash h.2.0 rest refl h.2.2) refl))
 
 predicate_starts : (o : Option Tree) (ts rest more : List Token) → IsPredicate o ts rest → IsMark m.OpenBrace rest more → is_at m.Comma ts ≡ false
 predicate_starts None ts rest more h s = rw (h, sign_at m.OpenBrace m.Comma rest more s) refl
@@ -212,7 +212,7 @@ clause_takes c ts rest h =
     let one = descriptions_take c.descriptions ts h.0 h.1 in
     let two = predicate_uses c.predicate h.0 h.2.0 h.2.1 in
     let three = sign_one m.OpenBrace h.2.0 body.0 body.1 in
-    let four = between_takes m.Semicolon IsSlot slot_takes body.2.1.0 body.0 body.2.0 body.2.1.2 in
+    let four = between_takes m.Semicolon IsOptionalStmt optional_takes body.2.1.0 body.0 body.2.0 body.2.1.2 in
     let five = sign_one m.CloseBrace body.2.0 rest body.2.2 in
     omega arith
 
@@ -227,26 +227,26 @@ sign_no_word : (mark : Mark) (ts rest : List Token) → IsMark mark ts rest → 
 unfolding run after_run
 sign_no_word mark ts rest h = record { none = ap run h.begins.is; same = rw h.begins.is refl }
 
-type_read : (t : DeclaredType) (ts rest : List Token) → IsType t ts rest → NoWord rest → whole_type ts ≡ Some (t, rest)
-unfolding whole_type
+type_read : (t : DeclaredType) (ts rest : List Token) → IsType t ts rest → NoWord rest → declared_type ts ≡ Some (t, rest)
+unfolding declared_type
 type_read t ts rest h quiet =
     let words = type_words h.0 t h.2 in
     let own : run ts ≡ h.0 = ap run h.1 ∙ (run_is h.0 rest words ∙ (ap (λ (xs : List Token). h.0 ++ xs) quiet.none ∙ append-nil h.0)) in
     let later : after_run ts ≡ rest = ap after_run h.1 ∙ (later_is h.0 rest words ∙ quiet.same) in
     rw (own, later, h.2) refl
 
-further_no_word : (all : List DeclaredType) (ts close rest : List Token) → EachAfter m.Comma IsType all ts close → IsMark m.CloseBracket close rest → NoWord ts
-further_no_word [] ts close rest h s = subst NoWord (sym h) (sign_no_word m.CloseBracket close rest s)
-further_no_word (t ∷ all) ts close rest h s = sign_no_word m.Comma ts h.0 h.1
+tail_no_word : (all : List DeclaredType) (ts close rest : List Token) → EachAfter m.Comma IsType all ts close → IsMark m.CloseBracket close rest → NoWord ts
+tail_no_word [] ts close rest h s = subst NoWord (sym h) (sign_no_word m.CloseBracket close rest s)
+tail_no_word (t ∷ all) ts close rest h s = sign_no_word m.Comma ts h.0 h.1
 
-types_read : (others : List DeclaredType) (turns : ℕ) (all : List DeclaredType) (ts close rest : List Token) → EachAfter m.Comma IsType others ts close → IsMark m.CloseBracket close rest → length ts < turns → further_types turns all ts ≡ Some (all ++ others, rest)
-unfolding types_on
+types_read : (others : List DeclaredType) (turns : ℕ) (all : List DeclaredType) (ts close rest : List Token) → EachAfter m.Comma IsType others ts close → IsMark m.CloseBracket close rest → length ts < turns → types_tail turns all ts ≡ Some (all ++ others, rest)
+unfolding types_tail_on
 types_read others zero all ts close rest h s len = absurd (omega arith)
 types_read [] (suc turns) all ts close rest h s len = rw h (rw (sign_at m.CloseBracket m.Comma close rest s) (rw (after_sign m.CloseBracket close rest refl s, append-nil all) refl))
 types_read (t ∷ others) (suc turns) all ts close rest h s len =
     let one = sign_one m.Comma ts h.0 h.1 in
     let two = type_takes t h.0 h.2.0 h.2.1 in
-    rw (sign_at m.Comma m.Comma ts h.0 h.1, sign_tail m.Comma ts h.0 h.1) (rw (type_read t h.0 h.2.0 h.2.1 (further_no_word others h.2.0 close rest h.2.2 s))
+    rw (sign_at m.Comma m.Comma ts h.0 h.1, sign_tail m.Comma ts h.0 h.1) (rw (type_read t h.0 h.2.0 h.2.1 (tail_no_word others h.2.0 close rest h.2.2 s))
     (types_read others turns (all ++ t ∷ []) h.2.0 close rest h.2.2 s (omega arith) ∙ ap (λ (xs : List DeclaredType). Some (xs, rest)) (append_assoc all (t ∷ []) others)))
 
 key_types_read : (n : ℕ) (all : List DeclaredType) (ts rest more : List Token) → AreKeyTypes all ts rest → IsMark m.Semicolon rest more → length ts < n → key_types n ts ≡ Some (all, rest)
@@ -256,7 +256,7 @@ key_types_read n (t ∷ all) ts rest more h s len =
     let one = sign_one m.OpenBracket ts h.0 h.1 in
     let types = h.2.1 in
     let two = type_takes t h.0 types.0 types.1 in
-    rw (sign_at m.OpenBracket m.OpenBracket ts h.0 h.1, sign_tail m.OpenBracket ts h.0 h.1) (rw (type_read t h.0 types.0 types.1 (further_no_word all types.0 h.2.0 rest types.2 h.2.2))
+    rw (sign_at m.OpenBracket m.OpenBracket ts h.0 h.1, sign_tail m.OpenBracket ts h.0 h.1) (rw (type_read t h.0 types.0 types.1 (tail_no_word all types.0 h.2.0 rest types.2 h.2.2))
     (types_read all n (t ∷ []) types.0 h.2.0 rest types.2 h.2.2 (omega arith)))
 
 keys_no_word : (all : List DeclaredType) (ts rest more : List Token) → AreKeyTypes all ts rest → IsMark m.Semicolon rest more → NoWord ts

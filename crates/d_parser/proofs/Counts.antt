@@ -11,13 +11,13 @@ use Rattle.d_parser.specs.Tree.{OfClause, ClauseTree, ItemTree, Declared, Probin
 use Rattle.d_parser.specs.declared.words.WordKind.{WordKind}
 use Rattle.d_parser.specs.declared.words.WordKind.TheVariants as w
 use Rattle.d_parser.specs.Grammar.{IsType}
-use Rattle.d_parser.specs.Script.{EachAfter, SeparatedBy, IsStmt, IsSlot, present, AreStmts}
+use Rattle.d_parser.specs.Script.{EachAfter, SeparatedBy, IsStmt, IsOptionalStmt, present, AreStmts}
 use Rattle.d_parser.specs.Script.{IsDescription, IsPredicate, IsClause, AreKeyTypes, IsDeclared}
 use Rattle.d_parser.specs.Script.{IsDeclaration, IsItem, IsScript}
 use Rattle.d_parser.specs.Sizes.{in_all, in_predicate, in_stmt, variables}
 use Rattle.d_parser.specs.Sizes.{descriptions, statements, IsWithin}
 use Rattle.d_parser.proofs.Takes.{Uses, sign_one, word_one, type_takes, keys_use, list_uses}
-use Rattle.d_parser.proofs.Takes.{phrase_uses, between_takes}
+use Rattle.d_parser.proofs.Takes.{expr_uses, between_takes}
 
 same : (ts rest : List Token) → ts ≡ rest → length ts ≡ length rest
 same ts rest e = ap length e
@@ -26,7 +26,7 @@ same ts rest e = ap length e
 
 -- a token for each place of a variable, and one at least
 stmt_uses : (s : StmtTree) → Uses (max 1 (in_stmt s)) (IsStmt s)
-stmt_uses (Expression t) ts rest h = phrase_uses t 1 ts rest h
+stmt_uses (Expression t) ts rest h = expr_uses t 1 ts rest h
 stmt_uses (Aggregation line name keys function arguments) ts rest h =
     let at_assign = h.1.2 in
     let at_word = at_assign.2 in
@@ -51,26 +51,26 @@ stmt_one s ts rest h = let used = stmt_uses s ts rest h in omega arith
 abbrev Counts : (StmtTree → ℕ) → Type 0
 Counts f = (s : StmtTree) → Uses (f s) (IsStmt s)
 
-further_use : (f : StmtTree → ℕ) → Counts f → (slots : List (Option StmtTree)) → Uses (in_all f (present slots)) (EachAfter m.Semicolon IsSlot slots)
-further_use f c [] ts rest h = let e = same ts rest h in omega arith
-further_use f c (None ∷ slots) ts rest h =
+stmts_tail_use : (f : StmtTree → ℕ) → Counts f → (optionals : List (Option StmtTree)) → Uses (in_all f (present optionals)) (EachAfter m.Semicolon IsOptionalStmt optionals)
+stmts_tail_use f c [] ts rest h = let e = same ts rest h in omega arith
+stmts_tail_use f c (None ∷ optionals) ts rest h =
     let one = sign_one m.Semicolon ts h.0 h.1 in
     let two = same h.0 h.2.0 h.2.1 in
-    let three = further_use f c slots h.2.0 rest h.2.2 in
+    let three = stmts_tail_use f c optionals h.2.0 rest h.2.2 in
     omega arith
-further_use f c (Some s ∷ slots) ts rest h =
+stmts_tail_use f c (Some s ∷ optionals) ts rest h =
     let one = sign_one m.Semicolon ts h.0 h.1 in
     let two = c s h.0 h.2.0 h.2.1 in
-    let three = further_use f c slots h.2.0 rest h.2.2 in
+    let three = stmts_tail_use f c optionals h.2.0 rest h.2.2 in
     omega arith
 
-slots_use : (f : StmtTree → ℕ) → Counts f → (slots : List (Option StmtTree)) → Uses (in_all f (present slots)) (SeparatedBy m.Semicolon IsSlot slots)
-slots_use f c [] ts rest h = absurd h
-slots_use f c (None ∷ slots) ts rest h = let one = same ts h.0 h.1 in let two = further_use f c slots h.0 rest h.2 in omega arith
-slots_use f c (Some s ∷ slots) ts rest h = let one = c s ts h.0 h.1 in let two = further_use f c slots h.0 rest h.2 in omega arith
+optionals_use : (f : StmtTree → ℕ) → Counts f → (optionals : List (Option StmtTree)) → Uses (in_all f (present optionals)) (SeparatedBy m.Semicolon IsOptionalStmt optionals)
+optionals_use f c [] ts rest h = absurd h
+optionals_use f c (None ∷ optionals) ts rest h = let one = same ts h.0 h.1 in let two = stmts_tail_use f c optionals h.0 rest h.2 in omega arith
+optionals_use f c (Some s ∷ optionals) ts rest h = let one = c s ts h.0 h.1 in let two = stmts_tail_use f c optionals h.0 rest h.2 in omega arith
 
 stmts_use : (f : StmtTree → ℕ) → Counts f → (all : List StmtTree) → Uses (in_all f all) (AreStmts all)
-stmts_use f c all ts rest h = rw h.1 (slots_use f c h.0 ts rest h.2)
+stmts_use f c all ts rest h = rw h.1 (optionals_use f c h.0 ts rest h.2)
 
 -- each counted once
 one_each : {A : Type 0} (xs : List A) → in_all (λ x. 1) xs ≡ length xs
@@ -79,26 +79,26 @@ one_each (x ∷ xs) = let below = one_each xs in omega arith
 
 -- ---- clauses and declarations
 
-further_descriptions_use : (ds : List Description) → Uses (length ds) (EachAfter m.Comma IsDescription ds)
-further_descriptions_use [] ts rest h = let e = same ts rest h in omega arith
-further_descriptions_use (d ∷ ds) ts rest h =
+descriptions_tail_use : (ds : List Description) → Uses (length ds) (EachAfter m.Comma IsDescription ds)
+descriptions_tail_use [] ts rest h = let e = same ts rest h in omega arith
+descriptions_tail_use (d ∷ ds) ts rest h =
     let one = sign_one m.Comma ts h.0 h.1 in
     let two : length h.0 ≡ suc (length h.2.0) = ap length h.2.1.begins.is in
-    let three = further_descriptions_use ds h.2.0 rest h.2.2 in
+    let three = descriptions_tail_use ds h.2.0 rest h.2.2 in
     omega arith
 
 pub descriptions_use : (ds : List Description) → Uses (length ds) (SeparatedBy m.Comma IsDescription ds)
 descriptions_use [] ts rest h = absurd h
 descriptions_use (d ∷ ds) ts rest h =
     let two : length ts ≡ suc (length h.0) = ap length h.1.begins.is in
-    let three = further_descriptions_use ds h.0 rest h.2 in
+    let three = descriptions_tail_use ds h.0 rest h.2 in
     omega arith
 
 pub predicate_uses : (p : Option Tree) → Uses (in_predicate p) (IsPredicate p)
 predicate_uses None ts rest h = let e = same ts rest h in omega arith
 predicate_uses (Some t) ts rest h =
     let one = sign_one m.Slash ts h.0 h.1 in
-    let two = phrase_uses t 1 h.0 h.2.0 h.2.1 in
+    let two = expr_uses t 1 h.0 h.2.0 h.2.1 in
     let three = sign_one m.ClosingSlash h.2.0 rest h.2.2 in
     omega arith
 

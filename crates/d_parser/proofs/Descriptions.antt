@@ -8,11 +8,18 @@ use Rattle.std.proofs.lemmas.Bool.{eqb-true, not-true}
 use Rattle.d_lexer.specs.declared.token.Token.{Token}
 use Rattle.d_parser.specs.declared.tree.Description.{Description}
 use Rattle.std.specs.List.{join_with_byte}
-use Rattle.d_parser.specs.Script.{list_all, colon, is_field, fields_of, is_ascii_digit}
+use Rattle.d_parser.specs.Script.{list_all, colon, is_ascii_digit}
 use Rattle.d_parser.specs.Script.{IsDescription}
 use Rattle.d_parser.specs.Steps.Script.{description_with, before_colon, after_colon, with_first}
 use Rattle.d_parser.specs.Steps.Script.{fields, description_from, description_of}
 use Rattle.d_parser.proofs.Cuts.{whole_field}
+
+-- no colon is in it
+abbrev is_field : List ℕ → Bool
+is_field bytes = list_all (λ b. not (b == colon)) bytes
+
+abbrev fields_of : Description → List (List ℕ)
+fields_of d = d.provider ∷ d.«module» ∷ d.function ∷ d.name ∷ []
 
 both : (a b : Bool) → (a && b) ≡ true → (a ≡ true) × (b ≡ true)
 both true b h = (refl, h)

@@ -22,13 +22,13 @@ use Rattle.d_parser.specs.Tree.{Tree, Known, Read, Call, Unary, Cast, Before, Af
 use Rattle.d_parser.specs.Tree.{Assign, Trees, end, more}
 use Rattle.d_parser.specs.Tree.{StmtTree, Expression, Aggregation, DeclarationTree, OfThread}
 use Rattle.d_parser.specs.Tree.{OfClause, ClauseTree, ItemTree, Declared, Probing, script_of}
-use Rattle.d_parser.specs.Grammar.{Part, IsToken, IsMark, Within, IsPhrase, level, constant_kind}
+use Rattle.d_parser.specs.Grammar.{Part, IsToken, IsMark, Within, IsOfLevel, level, constant_kind}
 use Rattle.d_parser.specs.Grammar.{IsWord, IsMember, IsTarget, IsType, Spells, SpellsKeys}
 use Rattle.d_parser.specs.Grammar.{SpellsList, SpellsMore}
-use Rattle.d_parser.specs.Marks.{level_of}
+use Rattle.d_parser.specs.Steps.Marks.{level_of}
 use Rattle.d_parser.specs.Numbers.{IsSmall, HasSmall, HaveSmall, InPredicate, InStatement}
 use Rattle.d_parser.specs.Numbers.{InStatements, AreSmall}
-use Rattle.d_parser.specs.Script.{EachAfter, SeparatedBy, IsStmt, IsSlot, present, AreStmts}
+use Rattle.d_parser.specs.Script.{EachAfter, SeparatedBy, IsStmt, IsOptionalStmt, present, AreStmts}
 use Rattle.d_parser.specs.Script.{IsDescription, IsPredicate, IsClause, AreKeyTypes, IsDeclared}
 use Rattle.d_parser.specs.Script.{IsDeclaration, IsScript}
 
@@ -62,8 +62,8 @@ within_small Q (suc n) P f ts rest s h =
     let inside = within_small Q n P f h.0 h.2.0 (sign_small _ ts h.0 s h.1) h.2.1 in
     (inside.0, sign_small _ h.2.0 rest inside.1 h.2.2)
 
-phrase_small : (t : Tree) (k : ℕ) → Keeps (HasSmall t) (Spells t) → Keeps (HasSmall t) (IsPhrase (Spells t) (level t) k)
-phrase_small t k f ts rest s h = within_small (HasSmall t) h.pairs (Spells t) f ts rest s h.within
+expr_small : (t : Tree) (k : ℕ) → Keeps (HasSmall t) (Spells t) → Keeps (HasSmall t) (IsOfLevel (Spells t) (level t) k)
+expr_small t k f ts rest s h = within_small (HasSmall t) h.pairs (Spells t) f ts rest s h.within
 
 word_small : (which : WordKind) (word : List ℕ) (line : ℕ) → Leaves (IsWord which word line)
 word_small which word line ts rest s h = (begins_small _ line ts rest s h.1).1
@@ -95,50 +95,50 @@ mutual
       let openings = sign_small _ h.0 h.2.0 named h.2.1 in
       let inside = list_small arguments h.2.0 h.2.2.0 openings h.2.2.1 in
       (inside.0, sign_small _ h.2.2.0 rest inside.1 h.2.2.2)
-  spells_small (Unary line op a) ts rest s h = phrase_small a 14 (spells_small a) h.0 rest (begins_small _ line ts h.0 s h.1).1 h.2
+  spells_small (Unary line op a) ts rest s h = expr_small a 14 (spells_small a) h.0 rest (begins_small _ line ts h.0 s h.1).1 h.2
   spells_small (Cast line to a) ts rest s h =
       let openings = (begins_small _ line ts h.0 s h.1).1 in
       let typed = type_small (d.Integer to) h.0 h.2.0 openings h.2.1 in
-      phrase_small a 14 (spells_small a) h.2.2.0 rest (sign_small _ h.2.0 h.2.2.0 typed h.2.2.1) h.2.2.2
+      expr_small a 14 (spells_small a) h.2.2.0 rest (sign_small _ h.2.0 h.2.2.0 typed h.2.2.1) h.2.2.2
   spells_small (Before line step x keys) ts rest s h = target_small x keys (keys_small keys) h.0 rest (begins_small _ line ts h.0 s h.1).1 h.2
   spells_small (After x keys step) ts rest s h =
       let all = target_small x keys (keys_small keys) ts h.0 s h.1 in
       (all.0, sign_small _ h.0 rest all.1 h.2)
   spells_small (Binary op a b) ts rest s h =
-      let left = phrase_small a (level_of op) (spells_small a) ts h.0 s h.1 in
-      let right = phrase_small b (suc (level_of op)) (spells_small b) h.2.0 rest (sign_small _ h.0 h.2.0 left.1 h.2.1) h.2.2 in
+      let left = expr_small a (level_of op) (spells_small a) ts h.0 s h.1 in
+      let right = expr_small b (suc (level_of op)) (spells_small b) h.2.0 rest (sign_small _ h.0 h.2.0 left.1 h.2.1) h.2.2 in
       ((left.0, right.0), right.1)
   spells_small (Choice test a b) ts rest s h =
       let first = h.2.2 in
       let second = first.2 in
-      let one = phrase_small test 3 (spells_small test) ts h.0 s h.1 in
-      let two = phrase_small a 1 (spells_small a) h.2.0 first.0 (sign_small _ h.0 h.2.0 one.1 h.2.1) first.1 in
-      let three = phrase_small b 2 (spells_small b) second.0 rest (sign_small _ first.0 second.0 two.1 second.1) second.2 in
+      let one = expr_small test 3 (spells_small test) ts h.0 s h.1 in
+      let two = expr_small a 1 (spells_small a) h.2.0 first.0 (sign_small _ h.0 h.2.0 one.1 h.2.1) first.1 in
+      let three = expr_small b 2 (spells_small b) second.0 rest (sign_small _ first.0 second.0 two.1 second.1) second.2 in
       ((one.0, two.0, three.0), three.1)
   spells_small (Assign op x keys a) ts rest s h =
       let one = target_small x keys (keys_small keys) ts h.0 s h.1 in
-      let two = phrase_small a 1 (spells_small a) h.2.0 rest (sign_small _ h.0 h.2.0 one.1 h.2.1) h.2.2 in
+      let two = expr_small a 1 (spells_small a) h.2.0 rest (sign_small _ h.0 h.2.0 one.1 h.2.1) h.2.2 in
       ((one.0, two.0), two.1)
 
   keys_small : (l : Trees) → Keeps (HaveSmall l) (SpellsKeys l)
   keys_small end ts rest s h = (tt, same_small ts rest s h)
   keys_small (more a l) ts rest s h =
       let inside = h.2.1 in
-      let one = phrase_small a 1 (spells_small a) h.0 inside.0 (sign_small _ ts h.0 s h.1) inside.1 in
+      let one = expr_small a 1 (spells_small a) h.0 inside.0 (sign_small _ ts h.0 s h.1) inside.1 in
       let two = more_small l inside.0 h.2.0 one.1 inside.2 in
       ((one.0, two.0), sign_small _ h.2.0 rest two.1 h.2.2)
 
   list_small : (l : Trees) → Keeps (HaveSmall l) (SpellsList l)
   list_small end ts rest s h = (tt, same_small ts rest s h)
   list_small (more a l) ts rest s h =
-      let one = phrase_small a 1 (spells_small a) ts h.0 s h.1 in
+      let one = expr_small a 1 (spells_small a) ts h.0 s h.1 in
       let two = more_small l h.0 rest one.1 h.2 in
       ((one.0, two.0), two.1)
 
   more_small : (l : Trees) → Keeps (HaveSmall l) (SpellsMore l)
   more_small end ts rest s h = (tt, same_small ts rest s h)
   more_small (more a l) ts rest s h =
-      let one = phrase_small a 1 (spells_small a) h.0 h.2.0 (sign_small _ ts h.0 s h.1) h.2.1 in
+      let one = expr_small a 1 (spells_small a) h.0 h.2.0 (sign_small _ ts h.0 s h.1) h.2.1 in
       let two = more_small l h.2.0 rest one.1 h.2.2 in
       ((one.0, two.0), two.1)
 
@@ -155,7 +155,7 @@ between_small mark Is f (x ∷ xs) ts rest s h = each_small mark Is f xs h.0 res
 -- ---- statements
 
 stmt_small : (t : StmtTree) → Keeps (InStatement t) (IsStmt t)
-stmt_small (Expression t) ts rest s h = phrase_small t 1 (spells_small t) ts rest s h
+stmt_small (Expression t) ts rest s h = expr_small t 1 (spells_small t) ts rest s h
 stmt_small (Aggregation line name keys function arguments) ts rest s h =
     let at_assign = h.1.2 in
     let at_word = at_assign.2 in
@@ -167,26 +167,26 @@ stmt_small (Aggregation line name keys function arguments) ts rest s h =
     let two = list_small arguments inside.0 inside.2.0 (sign_small _ at_open.0 inside.0 called inside.1) inside.2.1 in
     ((one.0, two.0), sign_small _ inside.2.0 rest two.1 inside.2.2)
 
-further_small : (slots : List (Option StmtTree)) → Keeps (InStatements (present slots)) (EachAfter m.Semicolon IsSlot slots)
-further_small [] ts rest s h = (tt, same_small ts rest s h)
-further_small (None ∷ slots) ts rest s h =
-    further_small slots h.2.0 rest (same_small h.0 h.2.0 (sign_small _ ts h.0 s h.1) h.2.1) h.2.2
-further_small (Some t ∷ slots) ts rest s h =
+stmts_tail_small : (optionals : List (Option StmtTree)) → Keeps (InStatements (present optionals)) (EachAfter m.Semicolon IsOptionalStmt optionals)
+stmts_tail_small [] ts rest s h = (tt, same_small ts rest s h)
+stmts_tail_small (None ∷ optionals) ts rest s h =
+    stmts_tail_small optionals h.2.0 rest (same_small h.0 h.2.0 (sign_small _ ts h.0 s h.1) h.2.1) h.2.2
+stmts_tail_small (Some t ∷ optionals) ts rest s h =
     let one = stmt_small t h.0 h.2.0 (sign_small _ ts h.0 s h.1) h.2.1 in
-    let two = further_small slots h.2.0 rest one.1 h.2.2 in
+    let two = stmts_tail_small optionals h.2.0 rest one.1 h.2.2 in
     ((one.0, two.0), two.1)
 
-slots_small : (slots : List (Option StmtTree)) → Keeps (InStatements (present slots)) (SeparatedBy m.Semicolon IsSlot slots)
-slots_small [] ts rest s h = absurd h
-slots_small (None ∷ slots) ts rest s h = further_small slots h.0 rest (same_small ts h.0 s h.1) h.2
-slots_small (Some t ∷ slots) ts rest s h =
+optionals_small : (optionals : List (Option StmtTree)) → Keeps (InStatements (present optionals)) (SeparatedBy m.Semicolon IsOptionalStmt optionals)
+optionals_small [] ts rest s h = absurd h
+optionals_small (None ∷ optionals) ts rest s h = stmts_tail_small optionals h.0 rest (same_small ts h.0 s h.1) h.2
+optionals_small (Some t ∷ optionals) ts rest s h =
     let one = stmt_small t ts h.0 s h.1 in
-    let two = further_small slots h.0 rest one.1 h.2 in
+    let two = stmts_tail_small optionals h.0 rest one.1 h.2 in
     ((one.0, two.0), two.1)
 
 stmts_small : (all : List StmtTree) → Keeps (InStatements all) (AreStmts all)
 stmts_small all ts rest s h =
-    let found = slots_small h.0 ts rest s h.2 in
+    let found = optionals_small h.0 ts rest s h.2 in
     (subst InStatements (sym h.1) found.0, found.1)
 
 -- ---- clauses and declarations
@@ -197,7 +197,7 @@ description_small d ts rest s h = (begins_small _ h.line ts rest s h.begins).1
 predicate_small : (p : Option Tree) → Keeps (InPredicate p) (IsPredicate p)
 predicate_small None ts rest s h = (tt, same_small ts rest s h)
 predicate_small (Some t) ts rest s h =
-    let one = phrase_small t 1 (spells_small t) h.0 h.2.0 (sign_small _ ts h.0 s h.1) h.2.1 in
+    let one = expr_small t 1 (spells_small t) h.0 h.2.0 (sign_small _ ts h.0 s h.1) h.2.1 in
     (one.0, sign_small _ h.2.0 rest one.1 h.2.2)
 
 key_types_small : (all : List DeclaredType) → Leaves (AreKeyTypes all)

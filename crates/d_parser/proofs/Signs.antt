@@ -18,7 +18,8 @@ use Rattle.d_parser.specs.declared.marks.Prefix.{Prefix}
 use Rattle.d_parser.specs.declared.marks.Prefix.TheVariants as p
 use Rattle.d_parser.specs.declared.marks.Follow.{Follow}
 use Rattle.d_parser.specs.declared.marks.Follow.TheVariants as f
-use Rattle.d_parser.specs.Marks.{binary_mark, assign_mark, unary_mark, step_mark}
+use Rattle.d_parser.specs.Marks.{assign_mark, unary_mark, step_mark}
+use Rattle.d_parser.specs.Symbols.{binary_mark}
 use Rattle.d_parser.specs.Steps.Marks.{prefix_of, follow_of}
 
 pub unary_prefix : (op : UnaryOperator) → prefix_of (unary_mark op) ≡ p.Unary op

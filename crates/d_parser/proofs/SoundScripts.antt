@@ -16,7 +16,7 @@ use Rattle.d_parser.specs.Words.{word_kind, type_of_words}
 use Rattle.d_parser.specs.Steps.Words.{is_word, run, after_run}
 use Rattle.d_parser.specs.Steps.Marks.{is_at, tail}
 use Rattle.d_parser.specs.Grammar.{◌⨟◌, token, IsToken, IsMark, IsEnclosed, IsType}
-use Rattle.d_parser.specs.Script.{EachAfter, SeparatedBy, IsStmt, IsSlot, present, AreStmts}
+use Rattle.d_parser.specs.Script.{EachAfter, SeparatedBy, IsStmt, IsOptionalStmt, present, AreStmts}
 use Rattle.d_parser.specs.Script.{IsDescription, IsPredicate, IsClause, AreKeyTypes, IsDeclaration}
 use Rattle.d_parser.specs.Script.{IsItem, IsScript}
 use Rattle.d_parser.specs.Steps.Script.{description_of}
@@ -24,20 +24,20 @@ use Rattle.d_parser.specs.Steps.Reading.{◌>>=◌, after_mark, readers, keys, a
 use Rattle.d_parser.specs.Steps.ReadingScripts.{word_by, any_word, aggregating_word, aggregation}
 use Rattle.d_parser.specs.Steps.ReadingScripts.{stmt_by, stmt}
 use Rattle.d_parser.specs.Steps.ReadingScripts.{ends_stmt}
-use Rattle.d_parser.specs.Steps.ReadingScripts.{slot, further_stmts, stmts, with_rest}
+use Rattle.d_parser.specs.Steps.ReadingScripts.{optional_stmt, stmts_tail, stmts, with_rest}
 use Rattle.d_parser.specs.Steps.ReadingScripts.{description_by}
-use Rattle.d_parser.specs.Steps.ReadingScripts.{description, descriptions_on, further_descriptions}
+use Rattle.d_parser.specs.Steps.ReadingScripts.{description, descriptions_tail_on, descriptions_tail}
 use Rattle.d_parser.specs.Steps.ReadingScripts.{descriptions_reader, predicate_reader}
 use Rattle.d_parser.specs.Steps.ReadingScripts.{block, clause_reader}
-use Rattle.d_parser.specs.Steps.ReadingScripts.{whole_type, types_on}
-use Rattle.d_parser.specs.Steps.ReadingScripts.{further_types, key_types, last_by, last_apart}
+use Rattle.d_parser.specs.Steps.ReadingScripts.{declared_type, types_tail_on}
+use Rattle.d_parser.specs.Steps.ReadingScripts.{types_tail, key_types, last_by, last_apart}
 use Rattle.d_parser.specs.Steps.ReadingScripts.{spelled_word}
 use Rattle.d_parser.specs.Steps.ReadingScripts.{typed_name, of_thread, of_clause, declaration_by}
 use Rattle.d_parser.specs.Steps.ReadingScripts.{item_by}
 use Rattle.d_parser.specs.Steps.ReadingScripts.{item_reader, items_reader, script_reader}
 use Rattle.d_parser.proofs.Complete.{sign_there}
 use Rattle.d_parser.proofs.Descriptions.{describes}
-use Rattle.d_parser.proofs.Sound.{IfSome, then_sound, test_sound, weaken, after_sound, Whole}
+use Rattle.d_parser.proofs.Sound.{IfSome, then_sound, test_sound, weaken, after_sound, ExprRead}
 use Rattle.d_parser.proofs.Sound.{KeysOf, ArgumentsOf, SignOf, keys_sound, arguments_sound}
 use Rattle.d_parser.proofs.Sound.{readers_sound}
 use Rattle.d_parser.proofs.Runs.{AreWords, are_words, run_joined}
@@ -96,8 +96,8 @@ aggregation_sound n line name start ts h =
     (λ function f. then_sound (ArgumentsOf f.at_open) (StmtOf start) (arguments (readers n) function.1) (λ all. Some (Aggregation line name keys.0 function.0 all.0, all.1)) (arguments_at n f.at_open function.1 f.opens)
     (λ all g. (f.word_line, (ts, h, (keys.1, k, (f.at_word, f.assigns, (f.at_open, f.word, g))))))))
 
-expression_sound : (n : ℕ) (ts : List Token) → IfSome (StmtOf ts) ((readers n).phrase 1 ts >>= λ x. Some (Expression x.0, x.1))
-expression_sound n ts = then_sound (Whole 1 ts) (StmtOf ts) ((readers n).phrase 1 ts) (λ x. Some (Expression x.0, x.1)) ((readers_sound n).phrase 1 ts (lit≤ tt) (lit≤ tt)) (λ x h. h.phrase)
+expression_sound : (n : ℕ) (ts : List Token) → IfSome (StmtOf ts) ((readers n).expr 1 ts >>= λ x. Some (Expression x.0, x.1))
+expression_sound n ts = then_sound (ExprRead 1 ts) (StmtOf ts) ((readers n).expr 1 ts) (λ x. Some (Expression x.0, x.1)) ((readers_sound n).expr 1 ts (lit≤ tt) (lit≤ tt)) (λ x h. h.expr)
 
 stmt_by_sound : (n : ℕ) (t : TokenKind) (start stop line : ℕ) (ts : List Token) → IfSome (StmtOf (token t start stop line ∷ ts)) (stmt_by n t line ts (token t start stop line ∷ ts))
 stmt_by_sound n (kind.AggregationName name) start stop line ts = aggregation_sound n line name (token (kind.AggregationName name) start stop line ∷ ts) ts (record { start = start; stop = stop; is = refl })
@@ -112,42 +112,42 @@ unfolding stmt
 stmt_sound n [] = tt
 stmt_sound n (t ∷ ts) = stmt_by_sound n t.kind t.start t.stop t.line ts
 
--- a slot is read
-pub record Slotted (all : List StmtTree) (ts : List Token) (x : List StmtTree × List Token) : Type 0 where
-  pub slot : Option StmtTree
-  pub spells : IsSlot slot ts x.1
-  pub is : x.0 ≡ all ++ present (slot ∷ [])
+-- an optional statement is read
+pub record OptionalRead (all : List StmtTree) (ts : List Token) (x : List StmtTree × List Token) : Type 0 where
+  pub optional_stmt : Option StmtTree
+  pub spells : IsOptionalStmt optional_stmt ts x.1
+  pub is : x.0 ≡ all ++ present (optional_stmt ∷ [])
 
-slot_sound : (n : ℕ) (all : List StmtTree) (ts : List Token) → IfSome (Slotted all ts) (slot n all ts)
-unfolding slot
-slot_sound n all ts =
-    test_sound (Slotted all ts) (ends_stmt ts) (Some (all, ts)) (stmt n ts >>= λ s. Some (all ++ s.0 ∷ [], s.1))
-    (λ e. record { slot = None; spells = refl; is = sym (append-nil all) })
-    (λ e. then_sound (StmtOf ts) (Slotted all ts) (stmt n ts) (λ s. Some (all ++ s.0 ∷ [], s.1)) (stmt_sound n ts) (λ s h. record { slot = Some s.0; spells = h; is = refl }))
+optional_sound : (n : ℕ) (all : List StmtTree) (ts : List Token) → IfSome (OptionalRead all ts) (optional_stmt n all ts)
+unfolding optional_stmt
+optional_sound n all ts =
+    test_sound (OptionalRead all ts) (ends_stmt ts) (Some (all, ts)) (stmt n ts >>= λ s. Some (all ++ s.0 ∷ [], s.1))
+    (λ e. record { optional_stmt = None; spells = refl; is = sym (append-nil all) })
+    (λ e. then_sound (StmtOf ts) (OptionalRead all ts) (stmt n ts) (λ s. Some (all ++ s.0 ∷ [], s.1)) (stmt_sound n ts) (λ s h. record { optional_stmt = Some s.0; spells = h; is = refl }))
 
--- the rest of the slots are read, and the brace
-pub record Slots (all : List StmtTree) (ts : List Token) (x : List StmtTree × List Token) : Type 0 where
-  pub slots : List (Option StmtTree)
+-- the optional statements after the first are read, and the brace
+pub record StmtsTail (all : List StmtTree) (ts : List Token) (x : List StmtTree × List Token) : Type 0 where
+  pub optionals : List (Option StmtTree)
   pub close : List Token
-  pub spells : EachAfter m.Semicolon IsSlot slots ts close
+  pub spells : EachAfter m.Semicolon IsOptionalStmt optionals ts close
   pub closes : IsMark m.CloseBrace close x.1
-  pub is : x.0 ≡ all ++ present slots
+  pub is : x.0 ≡ all ++ present optionals
 
-present_more : (slot : Option StmtTree) (slots : List (Option StmtTree)) → present (slot ∷ slots) ≡ present (slot ∷ []) ++ present slots
-present_more None slots = refl
-present_more (Some s) slots = refl
+present_more : (optional_stmt : Option StmtTree) (optionals : List (Option StmtTree)) → present (optional_stmt ∷ optionals) ≡ present (optional_stmt ∷ []) ++ present optionals
+present_more None optionals = refl
+present_more (Some s) optionals = refl
 
-further_sound : (n turns : ℕ) (all : List StmtTree) (ts : List Token) → IfSome (Slots all ts) (further_stmts n turns all ts)
-unfolding further_stmts
-further_sound n zero all ts = tt
-further_sound n (suc turns) all ts =
-    test_sound (Slots all ts) (is_at m.CloseBrace ts) (Some (all, tail ts)) (after_mark m.Semicolon ts >>= λ rest. slot n all rest >>= λ x. further_stmts n turns x.0 x.1)
-    (λ e. record { slots = []; close = ts; spells = refl; closes = sign_there m.CloseBrace ts e; is = sym (append-nil all) })
-    (λ e. then_sound (SignOf m.Semicolon ts) (Slots all ts) (after_mark m.Semicolon ts) (λ rest. slot n all rest >>= λ x. further_stmts n turns x.0 x.1) (after_sound m.Semicolon ts)
-    (λ rest s. then_sound (Slotted all rest) (Slots all ts) (slot n all rest) (λ x. further_stmts n turns x.0 x.1) (slot_sound n all rest)
-    (λ x h. weaken (Slots x.0 x.1) (Slots all ts) (further_stmts n turns x.0 x.1)
-    (λ y g. record { slots = h.slot ∷ g.slots; close = g.close; spells = (rest, s, (x.1, h.spells, g.spells)); closes = g.closes; is = g.is ∙ (ap (λ (xs : List StmtTree). xs ++ present g.slots) h.is ∙ (append_assoc all (present (h.slot ∷ [])) (present g.slots) ∙ ap (λ (xs : List StmtTree). all ++ xs) (sym (present_more h.slot g.slots)))) })
-    (further_sound n turns x.0 x.1))))
+stmts_tail_sound : (n turns : ℕ) (all : List StmtTree) (ts : List Token) → IfSome (StmtsTail all ts) (stmts_tail n turns all ts)
+unfolding stmts_tail
+stmts_tail_sound n zero all ts = tt
+stmts_tail_sound n (suc turns) all ts =
+    test_sound (StmtsTail all ts) (is_at m.CloseBrace ts) (Some (all, tail ts)) (after_mark m.Semicolon ts >>= λ rest. optional_stmt n all rest >>= λ x. stmts_tail n turns x.0 x.1)
+    (λ e. record { optionals = []; close = ts; spells = refl; closes = sign_there m.CloseBrace ts e; is = sym (append-nil all) })
+    (λ e. then_sound (SignOf m.Semicolon ts) (StmtsTail all ts) (after_mark m.Semicolon ts) (λ rest. optional_stmt n all rest >>= λ x. stmts_tail n turns x.0 x.1) (after_sound m.Semicolon ts)
+    (λ rest s. then_sound (OptionalRead all rest) (StmtsTail all ts) (optional_stmt n all rest) (λ x. stmts_tail n turns x.0 x.1) (optional_sound n all rest)
+    (λ x h. weaken (StmtsTail x.0 x.1) (StmtsTail all ts) (stmts_tail n turns x.0 x.1)
+    (λ y g. record { optionals = h.optional_stmt ∷ g.optionals; close = g.close; spells = (rest, s, (x.1, h.spells, g.spells)); closes = g.closes; is = g.is ∙ (ap (λ (xs : List StmtTree). xs ++ present g.optionals) h.is ∙ (append_assoc all (present (h.optional_stmt ∷ [])) (present g.optionals) ∙ ap (λ (xs : List StmtTree). all ++ xs) (sym (present_more h.optional_stmt g.optionals)))) })
+    (stmts_tail_sound n turns x.0 x.1))))
 
 abbrev StmtsOf : List Token → List StmtTree × List Token → Type 0
 StmtsOf ts x = (AreStmts x.0 ⨟ IsMark m.CloseBrace) ts x.1
@@ -155,10 +155,10 @@ StmtsOf ts x = (AreStmts x.0 ⨟ IsMark m.CloseBrace) ts x.1
 stmts_sound : (n : ℕ) (ts : List Token) → IfSome (StmtsOf ts) (stmts n ts)
 unfolding stmts
 stmts_sound n ts =
-    then_sound (Slotted [] ts) (StmtsOf ts) (slot n [] ts) (λ x. further_stmts n n x.0 x.1) (slot_sound n [] ts)
-    (λ x h. weaken (Slots x.0 x.1) (StmtsOf ts) (further_stmts n n x.0 x.1)
-    (λ y g. (g.close, (h.slot ∷ g.slots, g.is ∙ (ap (λ (xs : List StmtTree). xs ++ present g.slots) h.is ∙ sym (present_more h.slot g.slots)), (x.1, h.spells, g.spells)), g.closes))
-    (further_sound n n x.0 x.1))
+    then_sound (OptionalRead [] ts) (StmtsOf ts) (optional_stmt n [] ts) (λ x. stmts_tail n n x.0 x.1) (optional_sound n [] ts)
+    (λ x h. weaken (StmtsTail x.0 x.1) (StmtsOf ts) (stmts_tail n n x.0 x.1)
+    (λ y g. (g.close, (h.optional_stmt ∷ g.optionals, g.is ∙ (ap (λ (xs : List StmtTree). xs ++ present g.optionals) h.is ∙ sym (present_more h.optional_stmt g.optionals)), (x.1, h.spells, g.spells)), g.closes))
+    (stmts_tail_sound n n x.0 x.1))
 
 -- ---- clauses
 
@@ -184,20 +184,20 @@ unfolding description
 description_sound [] = tt
 description_sound (t ∷ ts) = description_by_sound t.kind t.start t.stop t.line ts
 
-pub record FurtherDescribed (all : List Description) (ts : List Token) (x : List Description × List Token) : Type 0 where
+pub record DescriptionsTail (all : List Description) (ts : List Token) (x : List Description × List Token) : Type 0 where
   pub others : List Description
   pub spells : EachAfter m.Comma IsDescription others ts x.1
   pub is : x.0 ≡ all ++ others
 
-further_descriptions_sound : (turns : ℕ) (all : List Description) (ts : List Token) → IfSome (FurtherDescribed all ts) (further_descriptions turns all ts)
-unfolding descriptions_on
-further_descriptions_sound zero all ts = tt
-further_descriptions_sound (suc turns) all ts =
-    test_sound (FurtherDescribed all ts) (is_at m.Comma ts) (description (tail ts) >>= λ d. further_descriptions turns (all ++ d.0 ∷ []) d.1) (Some (all, ts))
-    (λ e. then_sound (DescriptionOf (tail ts)) (FurtherDescribed all ts) (description (tail ts)) (λ d. further_descriptions turns (all ++ d.0 ∷ []) d.1) (description_sound (tail ts))
-    (λ d h. weaken (FurtherDescribed (all ++ d.0 ∷ []) d.1) (FurtherDescribed all ts) (further_descriptions turns (all ++ d.0 ∷ []) d.1)
+descriptions_tail_sound : (turns : ℕ) (all : List Description) (ts : List Token) → IfSome (DescriptionsTail all ts) (descriptions_tail turns all ts)
+unfolding descriptions_tail_on
+descriptions_tail_sound zero all ts = tt
+descriptions_tail_sound (suc turns) all ts =
+    test_sound (DescriptionsTail all ts) (is_at m.Comma ts) (description (tail ts) >>= λ d. descriptions_tail turns (all ++ d.0 ∷ []) d.1) (Some (all, ts))
+    (λ e. then_sound (DescriptionOf (tail ts)) (DescriptionsTail all ts) (description (tail ts)) (λ d. descriptions_tail turns (all ++ d.0 ∷ []) d.1) (description_sound (tail ts))
+    (λ d h. weaken (DescriptionsTail (all ++ d.0 ∷ []) d.1) (DescriptionsTail all ts) (descriptions_tail turns (all ++ d.0 ∷ []) d.1)
     (λ x g. record { others = d.0 ∷ g.others; spells = (tail ts, sign_there m.Comma ts e, (d.1, h, g.spells)); is = g.is ∙ append_assoc all (d.0 ∷ []) g.others })
-    (further_descriptions_sound turns (all ++ d.0 ∷ []) d.1)))
+    (descriptions_tail_sound turns (all ++ d.0 ∷ []) d.1)))
     (λ e. record { others = []; spells = refl; is = sym (append-nil all) })
 
 abbrev DescriptionsOf : List Token → List Description × List Token → Type 0
@@ -206,10 +206,10 @@ DescriptionsOf ts x = SeparatedBy m.Comma IsDescription x.0 ts x.1
 descriptions_sound : (n : ℕ) (ts : List Token) → IfSome (DescriptionsOf ts) (descriptions_reader n ts)
 unfolding descriptions_reader
 descriptions_sound n ts =
-    then_sound (DescriptionOf ts) (DescriptionsOf ts) (description ts) (λ d. further_descriptions n (d.0 ∷ []) d.1) (description_sound ts)
-    (λ d h. weaken (FurtherDescribed (d.0 ∷ []) d.1) (DescriptionsOf ts) (further_descriptions n (d.0 ∷ []) d.1)
+    then_sound (DescriptionOf ts) (DescriptionsOf ts) (description ts) (λ d. descriptions_tail n (d.0 ∷ []) d.1) (description_sound ts)
+    (λ d h. weaken (DescriptionsTail (d.0 ∷ []) d.1) (DescriptionsOf ts) (descriptions_tail n (d.0 ∷ []) d.1)
     (λ x g. subst (λ (ds : List Description). SeparatedBy m.Comma IsDescription ds ts x.1) (sym g.is) (d.1, h, g.spells))
-    (further_descriptions_sound n (d.0 ∷ []) d.1))
+    (descriptions_tail_sound n (d.0 ∷ []) d.1))
 
 abbrev PredicateOf : List Token → Option Tree × List Token → Type 0
 PredicateOf ts x = IsPredicate x.0 ts x.1
@@ -217,10 +217,10 @@ PredicateOf ts x = IsPredicate x.0 ts x.1
 predicate_sound : (n : ℕ) (ts : List Token) → IfSome (PredicateOf ts) (predicate_reader n ts)
 unfolding predicate_reader
 predicate_sound n ts =
-    test_sound (PredicateOf ts) (is_at m.Slash ts) ((readers n).phrase 1 (tail ts) >>= λ x. after_mark m.ClosingSlash x.1 >>= λ rest. Some (Some x.0, rest)) (Some (None, ts))
-    (λ e. then_sound (Whole 1 (tail ts)) (PredicateOf ts) ((readers n).phrase 1 (tail ts)) (λ x. after_mark m.ClosingSlash x.1 >>= λ rest. Some (Some x.0, rest)) ((readers_sound n).phrase 1 (tail ts) (lit≤ tt) (lit≤ tt))
+    test_sound (PredicateOf ts) (is_at m.Slash ts) ((readers n).expr 1 (tail ts) >>= λ x. after_mark m.ClosingSlash x.1 >>= λ rest. Some (Some x.0, rest)) (Some (None, ts))
+    (λ e. then_sound (ExprRead 1 (tail ts)) (PredicateOf ts) ((readers n).expr 1 (tail ts)) (λ x. after_mark m.ClosingSlash x.1 >>= λ rest. Some (Some x.0, rest)) ((readers_sound n).expr 1 (tail ts) (lit≤ tt) (lit≤ tt))
     (λ x h. then_sound (SignOf m.ClosingSlash x.1) (PredicateOf ts) (after_mark m.ClosingSlash x.1) (λ rest. Some (Some x.0, rest)) (after_sound m.ClosingSlash x.1)
-    (λ rest s. (tail ts, sign_there m.Slash ts e, (x.1, h.phrase, s)))))
+    (λ rest s. (tail ts, sign_there m.Slash ts e, (x.1, h.expr, s)))))
     (λ e. refl)
 
 abbrev ClauseOf : List Token → ClauseTree × List Token → Type 0
@@ -251,8 +251,8 @@ type_by_sound : (o : Option DeclaredType) (ts : List Token) → type_of_words (r
 type_by_sound None ts e = tt
 type_by_sound (Some t) ts e = (run ts, run_joined ts, e)
 
-type_sound : (ts : List Token) → IfSome (TypeOf ts) (whole_type ts)
-unfolding whole_type
+type_sound : (ts : List Token) → IfSome (TypeOf ts) (declared_type ts)
+unfolding declared_type
 type_sound ts = type_by_sound (type_of_words (run ts)) ts refl
 
 pub record Typed (all : List DeclaredType) (ts : List Token) (x : List DeclaredType × List Token) : Type 0 where
@@ -262,15 +262,15 @@ pub record Typed (all : List DeclaredType) (ts : List Token) (x : List DeclaredT
   pub closes : IsMark m.CloseBracket close x.1
   pub is : x.0 ≡ all ++ others
 
-further_types_sound : (turns : ℕ) (all : List DeclaredType) (ts : List Token) → IfSome (Typed all ts) (further_types turns all ts)
-unfolding types_on
-further_types_sound zero all ts = tt
-further_types_sound (suc turns) all ts =
-    test_sound (Typed all ts) (is_at m.Comma ts) (whole_type (tail ts) >>= λ t. further_types turns (all ++ t.0 ∷ []) t.1) (after_mark m.CloseBracket ts >>= λ rest. Some (all, rest))
-    (λ e. then_sound (TypeOf (tail ts)) (Typed all ts) (whole_type (tail ts)) (λ t. further_types turns (all ++ t.0 ∷ []) t.1) (type_sound (tail ts))
-    (λ t h. weaken (Typed (all ++ t.0 ∷ []) t.1) (Typed all ts) (further_types turns (all ++ t.0 ∷ []) t.1)
+types_tail_sound : (turns : ℕ) (all : List DeclaredType) (ts : List Token) → IfSome (Typed all ts) (types_tail turns all ts)
+unfolding types_tail_on
+types_tail_sound zero all ts = tt
+types_tail_sound (suc turns) all ts =
+    test_sound (Typed all ts) (is_at m.Comma ts) (declared_type (tail ts) >>= λ t. types_tail turns (all ++ t.0 ∷ []) t.1) (after_mark m.CloseBracket ts >>= λ rest. Some (all, rest))
+    (λ e. then_sound (TypeOf (tail ts)) (Typed all ts) (declared_type (tail ts)) (λ t. types_tail turns (all ++ t.0 ∷ []) t.1) (type_sound (tail ts))
+    (λ t h. weaken (Typed (all ++ t.0 ∷ []) t.1) (Typed all ts) (types_tail turns (all ++ t.0 ∷ []) t.1)
     (λ x g. record { others = t.0 ∷ g.others; close = g.close; spells = (tail ts, sign_there m.Comma ts e, (t.1, h, g.spells)); closes = g.closes; is = g.is ∙ append_assoc all (t.0 ∷ []) g.others })
-    (further_types_sound turns (all ++ t.0 ∷ []) t.1)))
+    (types_tail_sound turns (all ++ t.0 ∷ []) t.1)))
     (λ e. then_sound (SignOf m.CloseBracket ts) (Typed all ts) (after_mark m.CloseBracket ts) (λ rest. Some (all, rest)) (after_sound m.CloseBracket ts)
     (λ rest s. record { others = []; close = ts; spells = refl; closes = s; is = sym (append-nil all) }))
 
@@ -280,11 +280,11 @@ KeyTypesOf ts x = AreKeyTypes x.0 ts x.1
 key_types_sound : (n : ℕ) (ts : List Token) → IfSome (KeyTypesOf ts) (key_types n ts)
 unfolding key_types
 key_types_sound n ts =
-    test_sound (KeyTypesOf ts) (is_at m.OpenBracket ts) (whole_type (tail ts) >>= λ t. further_types n (t.0 ∷ []) t.1) (Some ([], ts))
-    (λ e. then_sound (TypeOf (tail ts)) (KeyTypesOf ts) (whole_type (tail ts)) (λ t. further_types n (t.0 ∷ []) t.1) (type_sound (tail ts))
-    (λ t h. weaken (Typed (t.0 ∷ []) t.1) (KeyTypesOf ts) (further_types n (t.0 ∷ []) t.1)
+    test_sound (KeyTypesOf ts) (is_at m.OpenBracket ts) (declared_type (tail ts) >>= λ t. types_tail n (t.0 ∷ []) t.1) (Some ([], ts))
+    (λ e. then_sound (TypeOf (tail ts)) (KeyTypesOf ts) (declared_type (tail ts)) (λ t. types_tail n (t.0 ∷ []) t.1) (type_sound (tail ts))
+    (λ t h. weaken (Typed (t.0 ∷ []) t.1) (KeyTypesOf ts) (types_tail n (t.0 ∷ []) t.1)
     (λ x g. subst (λ (all : List DeclaredType). AreKeyTypes all ts x.1) (sym g.is) (tail ts, sign_there m.OpenBracket ts e, (g.close, (t.1, h, g.spells), g.closes)))
-    (further_types_sound n (t.0 ∷ []) t.1)))
+    (types_tail_sound n (t.0 ∷ []) t.1)))
     (λ e. refl)
 
 -- all but the last, and the last

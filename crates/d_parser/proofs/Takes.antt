@@ -10,13 +10,14 @@ use Rattle.d_parser.specs.declared.tree.Variable.{Variable}
 use Rattle.d_parser.specs.declared.tree.Variable.TheVariants as v
 use Rattle.d_parser.specs.Tree.{Tree, Known, Read, Call, Unary, Cast, Before, After, Binary, Choice}
 use Rattle.d_parser.specs.Tree.{Assign, Trees, end, more}
-use Rattle.d_parser.specs.Marks.{level_of, binary_mark, assign_mark, step_mark}
+use Rattle.d_parser.specs.Marks.{assign_mark, step_mark}
+use Rattle.d_parser.specs.{Symbols.binary_mark, Steps.Marks.level_of}
 use Rattle.d_parser.specs.Sizes.{places, places_in}
 use Rattle.d_parser.specs.declared.tree.DeclaredType.{DeclaredType}
 use Rattle.d_parser.specs.declared.tree.DeclaredType.TheVariants as d
 use Rattle.d_parser.specs.declared.words.WordKind.{WordKind}
 use Rattle.d_parser.specs.declared.words.WordKind.TheVariants as w
-use Rattle.d_parser.specs.Grammar.{Part, IsToken, IsMark, Within, IsPhrase, level, IsWord, IsMember}
+use Rattle.d_parser.specs.Grammar.{Part, IsToken, IsMark, Within, IsOfLevel, level, IsWord, IsMember}
 use Rattle.d_parser.specs.Grammar.{IsTarget, IsType, Spells, SpellsKeys, SpellsList, SpellsMore}
 use Rattle.d_parser.specs.Script.{EachAfter, SeparatedBy}
 
@@ -66,8 +67,8 @@ within_uses k (suc n) P f ts rest h =
 abbrev pub least : Tree → ℕ
 least t = max 1 (places t)
 
-phrase_by : (t : Tree) (k : ℕ) → Uses (least t) (Spells t) → Uses (least t) (IsPhrase (Spells t) (level t) k)
-phrase_by t k f ts rest h = within_uses (least t) h.pairs (Spells t) f ts rest h.within
+expr_by : (t : Tree) (k : ℕ) → Uses (least t) (Spells t) → Uses (least t) (IsOfLevel (Spells t) (level t) k)
+expr_by t k f ts rest h = within_uses (least t) h.pairs (Spells t) f ts rest h.within
 
 target_uses : (x : Variable) (all : Trees) → Uses (places_in all) (SpellsKeys all) → Uses (suc (places_in all)) (IsTarget x all (SpellsKeys all))
 target_uses (v.Plain line name) all f ts rest h =
@@ -95,13 +96,13 @@ mutual
       omega arith
   uses (Unary line op a) ts rest h =
       let one : length ts ≡ suc (length h.0) = ap length h.1.is in
-      let two = phrase_by a 14 (uses a) h.0 rest h.2 in
+      let two = expr_by a 14 (uses a) h.0 rest h.2 in
       omega arith
   uses (Cast line to a) ts rest h =
       let one : length ts ≡ suc (length h.0) = ap length h.1.is in
       let two = type_takes (d.Integer to) h.0 h.2.0 h.2.1 in
       let three = sign_one m.CloseParenthesis h.2.0 h.2.2.0 h.2.2.1 in
-      let four = phrase_by a 14 (uses a) h.2.2.0 rest h.2.2.2 in
+      let four = expr_by a 14 (uses a) h.2.2.0 rest h.2.2.2 in
       omega arith
   uses (Before line step x keys) ts rest h =
       let one : length ts ≡ suc (length h.0) = ap length h.1.is in
@@ -112,28 +113,28 @@ mutual
       let two = sign_one (step_mark step) h.0 rest h.2 in
       omega arith
   uses (Binary op a b) ts rest h =
-      let one = phrase_by a (level_of op) (uses a) ts h.0 h.1 in
+      let one = expr_by a (level_of op) (uses a) ts h.0 h.1 in
       let two = sign_one (binary_mark op) h.0 h.2.0 h.2.1 in
-      let three = phrase_by b (suc (level_of op)) (uses b) h.2.0 rest h.2.2 in
+      let three = expr_by b (suc (level_of op)) (uses b) h.2.0 rest h.2.2 in
       omega arith
   uses (Choice test a b) ts rest h =
-      let one = phrase_by test 3 (uses test) ts h.0 h.1 in
+      let one = expr_by test 3 (uses test) ts h.0 h.1 in
       let two = sign_one m.Question h.0 h.2.0 h.2.1 in
-      let three = phrase_by a 1 (uses a) h.2.0 h.2.2.0 h.2.2.1 in
+      let three = expr_by a 1 (uses a) h.2.0 h.2.2.0 h.2.2.1 in
       let four = sign_one m.Colon h.2.2.0 h.2.2.2.0 h.2.2.2.1 in
-      let five = phrase_by b 2 (uses b) h.2.2.2.0 rest h.2.2.2.2 in
+      let five = expr_by b 2 (uses b) h.2.2.2.0 rest h.2.2.2.2 in
       omega arith
   uses (Assign op x keys a) ts rest h =
       let one = target_uses x keys (keys_use keys) ts h.0 h.1 in
       let two = sign_one (assign_mark op) h.0 h.2.0 h.2.1 in
-      let three = phrase_by a 1 (uses a) h.2.0 rest h.2.2 in
+      let three = expr_by a 1 (uses a) h.2.0 rest h.2.2 in
       omega arith
 
   pub keys_use : (l : Trees) → Uses (places_in l) (SpellsKeys l)
   keys_use end ts rest h = let e = same_length ts rest h in omega arith
   keys_use (more a l) ts rest h =
       let one = sign_one m.OpenBracket ts h.0 h.1 in
-      let two = phrase_by a 1 (uses a) h.0 h.2.1.0 h.2.1.1 in
+      let two = expr_by a 1 (uses a) h.0 h.2.1.0 h.2.1.1 in
       let three = more_uses l h.2.1.0 h.2.0 h.2.1.2 in
       let four = sign_one m.CloseBracket h.2.0 rest h.2.2 in
       omega arith
@@ -141,7 +142,7 @@ mutual
   pub list_uses : (l : Trees) → Uses (places_in l) (SpellsList l)
   list_uses end ts rest h = let e = same_length ts rest h in omega arith
   list_uses (more a l) ts rest h =
-      let two = phrase_by a 1 (uses a) ts h.0 h.1 in
+      let two = expr_by a 1 (uses a) ts h.0 h.1 in
       let three = more_uses l h.0 rest h.2 in
       omega arith
 
@@ -149,18 +150,18 @@ mutual
   more_uses end ts rest h = let e = same_length ts rest h in omega arith
   more_uses (more a l) ts rest h =
       let one = sign_one m.Comma ts h.0 h.1 in
-      let two = phrase_by a 1 (uses a) h.0 h.2.0 h.2.1 in
+      let two = expr_by a 1 (uses a) h.0 h.2.0 h.2.1 in
       let three = more_uses l h.2.0 rest h.2.2 in
       omega arith
 
-pub phrase_uses : (t : Tree) (k : ℕ) → Uses (least t) (IsPhrase (Spells t) (level t) k)
-phrase_uses t k = phrase_by t k (uses t)
+pub expr_uses : (t : Tree) (k : ℕ) → Uses (least t) (IsOfLevel (Spells t) (level t) k)
+expr_uses t k = expr_by t k (uses t)
 
 pub takes : (t : Tree) → Takes (Spells t)
 takes t ts rest h = let used = uses t ts rest h in omega arith
 
-pub phrase_takes : (t : Tree) (k : ℕ) → Takes (IsPhrase (Spells t) (level t) k)
-phrase_takes t k ts rest h = let used = phrase_uses t k ts rest h in omega arith
+pub expr_takes : (t : Tree) (k : ℕ) → Takes (IsOfLevel (Spells t) (level t) k)
+expr_takes t k ts rest h = let used = expr_uses t k ts rest h in omega arith
 
 pub target_takes : (x : Variable) (all : Trees) → Takes (IsTarget x all (SpellsKeys all))
 target_takes x all ts rest h = let used = target_uses x all (keys_use all) ts rest h in omega arith

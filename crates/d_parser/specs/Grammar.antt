@@ -7,7 +7,7 @@ use Rattle.d_parser.specs.Vocabulary.{WordKind, ASSIGNMENT, CONDITION, OR, UNARY
 use Rattle.d_parser.specs.Tree.{Tree, Known, Read, Call, Unary, Cast, Before, After, Binary, Choice}
 use Rattle.d_parser.specs.Tree.{Assign, Trees, end, more}
 use Rattle.d_parser.specs.Words.{word_kind, type_of_words}
-use Rattle.d_parser.specs.Marks.{binary_mark, level_of, assign_mark, unary_mark, step_mark}
+use Rattle.d_parser.specs.Marks.{mark_and_level, assign_mark, unary_mark, step_mark}
 
 -- what is at the front of a list, and what is left
 abbrev pub Part : Type 1
@@ -44,9 +44,9 @@ abbrev pub Within : ℕ → Part → Part
 Within zero P = P
 Within (suc n) P = IsEnclosed Mark.OpenParenthesis Mark.CloseParenthesis (Within n P)
 
--- A phrase of level k: parentheses round any expression, or without them what has that level at
--- least.
-pub record IsPhrase (Bare : Part) (own k : ℕ) (ts rest : List Token) : Type 0 where
+-- An expression of level k: parentheses round any expression, or without them what has that level
+-- at least.
+pub record IsOfLevel (Bare : Part) (own k : ℕ) (ts rest : List Token) : Type 0 where
   pub pairs : ℕ
   pub high : pairs ≡ 0 → k ≤ own
   pub within : Within pairs Bare ts rest
@@ -55,7 +55,7 @@ pub record IsPhrase (Bare : Part) (own k : ℕ) (ts rest : List Token) : Type 0 
 abbrev pub level : Tree → ℕ
 level (Assign op x keys a) = ASSIGNMENT
 level (Choice test a b) = CONDITION
-level (Binary op a b) = level_of op
+level (Binary op a b) = (mark_and_level op).1
 level (Unary line op a) = UNARY
 level (Cast line to a) = UNARY
 level (Before line step x keys) = UNARY
@@ -102,11 +102,11 @@ abbrev mutual
       ⨟ IsEnclosed Mark.OpenParenthesis Mark.CloseParenthesis (SpellsList arguments)
   -- unary = ( "!" | "~" | "-" | "+" ) unary
   Spells (Unary line op a) =
-      IsToken (TokenKind.Mark (unary_mark op)) line ⨟ IsPhrase (Spells a) (level a) UNARY
+      IsToken (TokenKind.Mark (unary_mark op)) line ⨟ IsOfLevel (Spells a) (level a) UNARY
   -- unary = "(" int-type ")" unary
   Spells (Cast line to a) =
       IsToken (TokenKind.Mark Mark.OpenParenthesis) line ⨟ IsType (DeclaredType.Integer to)
-      ⨟ IsMark Mark.CloseParenthesis ⨟ IsPhrase (Spells a) (level a) UNARY
+      ⨟ IsMark Mark.CloseParenthesis ⨟ IsOfLevel (Spells a) (level a) UNARY
   -- unary = ( "++" | "--" ) target
   Spells (Before line step x keys) =
       IsToken (TokenKind.Mark (step_mark step)) line ⨟ IsTarget x keys (SpellsKeys keys)
@@ -114,35 +114,35 @@ abbrev mutual
   Spells (After x keys step) = IsTarget x keys (SpellsKeys keys) ⨟ IsMark (step_mark step)
   -- binary, at the operator's level; all operators are left-associative
   Spells (Binary op a b) =
-      IsPhrase (Spells a) (level a) (level_of op) ⨟ IsMark (binary_mark op)
-      ⨟ IsPhrase (Spells b) (level b) (suc (level_of op))
+      IsOfLevel (Spells a) (level a) (mark_and_level op).1 ⨟ IsMark (mark_and_level op).0
+      ⨟ IsOfLevel (Spells b) (level b) (suc (mark_and_level op).1)
   -- cond = binary "?" expr ":" cond
   Spells (Choice test a b) =
-      IsPhrase (Spells test) (level test) OR
-      ⨟ IsMark Mark.Question ⨟ IsPhrase (Spells a) (level a) ASSIGNMENT
-      ⨟ IsMark Mark.Colon ⨟ IsPhrase (Spells b) (level b) CONDITION
+      IsOfLevel (Spells test) (level test) OR
+      ⨟ IsMark Mark.Question ⨟ IsOfLevel (Spells a) (level a) ASSIGNMENT
+      ⨟ IsMark Mark.Colon ⨟ IsOfLevel (Spells b) (level b) CONDITION
   -- expr = target assign-op expr
   Spells (Assign op x keys a) =
       IsTarget x keys (SpellsKeys keys) ⨟ IsMark (assign_mark op)
-      ⨟ IsPhrase (Spells a) (level a) ASSIGNMENT
+      ⨟ IsOfLevel (Spells a) (level a) ASSIGNMENT
 
   -- [ "[" exprs "]" ]
   pub SpellsKeys : Trees → Part
   SpellsKeys end = Nothing
   SpellsKeys (more a keys) =
       IsEnclosed Mark.OpenBracket Mark.CloseBracket
-      (IsPhrase (Spells a) (level a) ASSIGNMENT ⨟ SpellsMore keys)
+      (IsOfLevel (Spells a) (level a) ASSIGNMENT ⨟ SpellsMore keys)
 
   -- [ exprs ]
   pub SpellsList : Trees → Part
   SpellsList end = Nothing
-  SpellsList (more a list) = IsPhrase (Spells a) (level a) ASSIGNMENT ⨟ SpellsMore list
+  SpellsList (more a list) = IsOfLevel (Spells a) (level a) ASSIGNMENT ⨟ SpellsMore list
 
   -- { "," expr }
   pub SpellsMore : Trees → Part
   SpellsMore end = Nothing
   SpellsMore (more a list) =
-      IsMark Mark.Comma ⨟ IsPhrase (Spells a) (level a) ASSIGNMENT ⨟ SpellsMore list
+      IsMark Mark.Comma ⨟ IsOfLevel (Spells a) (level a) ASSIGNMENT ⨟ SpellsMore list
 
 abbrev pub IsExpression : Tree → Part
-IsExpression t = IsPhrase (Spells t) (level t) ASSIGNMENT
+IsExpression t = IsOfLevel (Spells t) (level t) ASSIGNMENT

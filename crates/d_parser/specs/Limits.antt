@@ -1,29 +1,25 @@
 -- How deep and how long tokens may be, and how many clauses there may be.
 -- Source: docs/GRAMMAR.md, "Grammar".
-use Rattle.std.specs.Prelude.{◌≡◌, ◌<◌, ◌+◌, ◌⊎◌, ℕ, Bool, true, false, List, ◌++◌, length}
+use Rattle.std.specs.Prelude.{◌≡◌, ◌<◌, ◌+◌, ◌⊎◌, ℕ, Bool, false, List, [], ◌∷◌, ◌++◌, length}
 use Rattle.std.specs.Prelude.{count_by, Result, Ok, Err}
+use Rattle.std.specs.List.{list_any}
+use Rattle.d_parser.specs.Symbols.{same_mark}
 use Rattle.d_parser.specs.Vocabulary.{Mark, Token, TokenKind, ParseFault, MOST_OPEN, MOST_IN_A_ROW}
 use Rattle.d_parser.specs.Vocabulary.{MOST_CLAUSES}
 
+-- a mark of these
+abbrev pub is_among : List Mark → TokenKind → Bool
+is_among marks (TokenKind.Mark mark) = list_any (same_mark mark) marks
+is_among marks t = false
+
 abbrev pub opens : TokenKind → Bool
-opens (TokenKind.Mark Mark.OpenParenthesis) = true
-opens (TokenKind.Mark Mark.OpenBracket) = true
-opens t = false
+opens = is_among (Mark.OpenParenthesis ∷ Mark.OpenBracket ∷ [])
 
 abbrev pub closes : TokenKind → Bool
-closes (TokenKind.Mark Mark.CloseParenthesis) = true
-closes (TokenKind.Mark Mark.CloseBracket) = true
-closes t = false
+closes = is_among (Mark.CloseParenthesis ∷ Mark.CloseBracket ∷ [])
 
 abbrev pub ends_row : TokenKind → Bool
-ends_row (TokenKind.Mark Mark.Semicolon) = true
-ends_row (TokenKind.Mark Mark.OpenBrace) = true
-ends_row (TokenKind.Mark Mark.CloseBrace) = true
-ends_row t = false
-
-abbrev pub opens_clause : TokenKind → Bool
-opens_clause (TokenKind.Mark Mark.OpenBrace) = true
-opens_clause t = false
+ends_row = is_among (Mark.Semicolon ∷ Mark.OpenBrace ∷ Mark.CloseBrace ∷ [])
 
 abbrev pub how_many : (TokenKind → Bool) → List Token → ℕ
 how_many is ts = count_by (λ t. is t.kind) ts
@@ -40,7 +36,7 @@ pub record IsDeep (ts : List Token) : Type 0 where
       ⊎ ((MOST_IN_A_ROW < length stretch) × (how_many ends_row stretch ≡ 0))
 
 abbrev pub clauses : List Token → ℕ
-clauses ts = how_many opens_clause ts
+clauses ts = how_many (is_among (Mark.OpenBrace ∷ [])) ts
 
 -- TooDeep and TooManyClauses are reported only where that limit is passed
 abbrev pub OnlyLimits : {X : Type 0} → List Token → Result X ParseFault → Type 0

@@ -33,12 +33,6 @@ mark_and_level (binary.Logic logic.And) = (Mark.AndAnd, AND)
 mark_and_level (binary.Logic logic.Xor) = (Mark.XorXor, XOR)
 mark_and_level (binary.Logic logic.Or) = (Mark.OrOr, OR)
 
-abbrev pub binary_mark : BinaryOperator → Mark
-binary_mark op = (mark_and_level op).0
-
-abbrev pub level_of : BinaryOperator → ℕ
-level_of op = (mark_and_level op).1
-
 abbrev pub assign_mark : AssignOperator → Mark
 assign_mark assign.Set = Mark.Assign
 assign_mark (assign.Arithmetic arithmetic.Add) = Mark.AddAssign

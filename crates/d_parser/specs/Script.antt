@@ -1,7 +1,7 @@
 -- Which tokens spell a script: its declarations, and its clauses with their descriptions, predicate
 -- and statements.
 -- Source: Dynamic Tracing Guide, "D Program Structure".
-use Rattle.std.specs.Prelude.{◌≡◌, ◌==◌, not, ℕ, Bool, true, false, List, [], ◌∷◌}
+use Rattle.std.specs.Prelude.{◌≡◌, ◌==◌, not, ℕ, true, false, List, [], ◌∷◌}
 use Rattle.std.specs.Prelude.{◌++◌, replicate, Option, Some, None}
 use Rattle.d_parser.specs.Vocabulary.{Mark, Token, TokenKind, DeclaredType, Description, WordKind}
 use Rattle.d_parser.specs.Tree.{Tree, StmtTree, Expression, Aggregation, DeclarationTree}
@@ -35,31 +35,24 @@ IsStmt (Aggregation line name keys function arguments) = λ ts rest. (word_line 
     ⨟ IsEnclosed Mark.OpenParenthesis Mark.CloseParenthesis (SpellsList arguments)) ts rest
 
 -- [ stmt ]
-abbrev pub IsSlot : Option StmtTree → Part
-IsSlot None = Nothing
-IsSlot (Some s) = IsStmt s
+abbrev pub IsOptionalStmt : Option StmtTree → Part
+IsOptionalStmt None = Nothing
+IsOptionalStmt (Some s) = IsStmt s
 
 -- the statements that are there
 abbrev pub present : List (Option StmtTree) → List StmtTree
-present slots = filter_map (λ s. s) slots
+present optionals = filter_map (λ s. s) optionals
 
 -- [ stmt ] { ";" [ stmt ] }
 abbrev pub AreStmts : List StmtTree → Part
 AreStmts stmts ts rest =
-    (slots : List (Option StmtTree)) × (stmts ≡ present slots)
-    × SeparatedBy Mark.Semicolon IsSlot slots ts rest
+    (optionals : List (Option StmtTree)) × (stmts ≡ present optionals)
+    × SeparatedBy Mark.Semicolon IsOptionalStmt optionals ts rest
 
 -- ---- clauses
 
 abbrev pub colon : ℕ
 colon = 58
-
--- no colon is in it
-abbrev pub is_field : List ℕ → Bool
-is_field bytes = list_all (λ b. not (b == colon)) bytes
-
-abbrev pub fields_of : Description → List (List ℕ)
-fields_of d = d.provider ∷ d.«module» ∷ d.function ∷ d.name ∷ []
 
 -- One run, not of digits alone, that gives the last fields; those missing before them are empty.
 pub record IsDescription (d : Description) (ts rest : List Token) : Type 0 where
@@ -70,8 +63,8 @@ pub record IsDescription (d : Description) (ts rest : List Token) : Type 0 where
   pub begins : IsToken (TokenKind.DescriptionRun run) line ts rest
   pub named : list_all is_ascii_digit run ≡ false
   pub is : run ≡ join_with_byte colon given
-  pub apart : list_all is_field given ≡ true
-  pub are : fields_of d ≡ replicate missing [] ++ given
+  pub apart : list_all (list_all (λ b. not (b == colon))) given ≡ true
+  pub are : (d.provider ∷ d.«module» ∷ d.function ∷ d.name ∷ []) ≡ replicate missing [] ++ given
 
 -- [ "/" expr "/" ]
 abbrev pub IsPredicate : Option Tree → Part
@@ -108,11 +101,12 @@ IsDeclaration (OfClause line t name) = IsDeclared WordKind.Clause line t name []
 
 -- ---- scripts
 
+-- item = decl | clause
 abbrev pub IsItem : ItemTree → Part
 IsItem (Declared d) = IsDeclaration d
 IsItem (Probing c) = IsClause c
 
--- all tokens spell these declarations and clauses
+-- script = { item }
 abbrev pub IsScript : List ItemTree → List Token → Type 0
 IsScript [] ts = ts ≡ []
 IsScript (item ∷ items) ts = (rest : List Token) × IsItem item ts rest × IsScript items rest

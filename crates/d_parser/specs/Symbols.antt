@@ -5,7 +5,11 @@ use denote.Enum.Bare.{sameb}
 use Rattle.d_lexer.specs.contracts.token.Mark.{the_type}
 use Rattle.d_lexer.specs.Marks.{marks_in}
 use Rattle.d_lexer.specs.declared.place.Place.TheVariants.{Body}
-use Rattle.d_parser.specs.Vocabulary.{Mark, IntegerType, DeclaredType}
+use Rattle.d_parser.specs.Vocabulary.{Mark, IntegerType, DeclaredType, BinaryOperator}
+use Rattle.d_parser.specs.Marks.{mark_and_level}
+
+abbrev pub binary_mark : BinaryOperator → Mark
+binary_mark op = (mark_and_level op).0
 
 -- `==` on marks
 abbrev pub same_mark : Mark → Mark → Bool

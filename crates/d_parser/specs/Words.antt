@@ -20,12 +20,9 @@ reserved_words =
     ∷ (codes "uint32_t", kind.Fixed integer.Uint32) ∷ (codes "uint64_t", kind.Fixed integer.Uint64)
     ∷ []
 
-abbrev pub kind_among : List (List ℕ × WordKind) → List ℕ → WordKind
-kind_among entries word = unwrap_or (lookup (bytes_eq word) entries) kind.Plain
-
 -- what a word stands for
 abbrev pub word_kind : List ℕ → WordKind
-word_kind word = kind_among reserved_words word
+word_kind word = unwrap_or (lookup (bytes_eq word) reserved_words) kind.Plain
 
 abbrev pub word_kind_of : TokenKind → WordKind
 word_kind_of (TokenKind.Word word) = word_kind word

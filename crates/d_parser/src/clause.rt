@@ -7,7 +7,7 @@ ghost use Rattle.d_parser.specs.Steps.Reading.{OnlyMemory};
 ghost use Rattle.d_parser.specs.Steps.ReadingScripts as spec;
 
 use crate::description::description_of;
-use crate::expression::phrase;
+use crate::expression::expr;
 use crate::fault::{AT_END, ParseFault};
 use crate::marks::{ASSIGNMENT, is_at, tail};
 use crate::names::{after_mark, syntax_at};
@@ -44,31 +44,31 @@ fn put(all: &mut Vec<Description>, next: Description) -> Result<(), ParseFault>
 /// The descriptions after commas.
 #[cycle(descriptions)]
 #[tactic(auto, using(crate::proofs::Steps::descriptions))]
-fn further_descriptions<'a>(
+fn descriptions_tail<'a>(
     alloc: Global,
     turns: usize,
     all: Vec<Description>,
     tokens: &'a [Token],
 ) -> Result<(Vec<Description>, &'a [Token]), ParseFault>
     ensures { Gives (λ x. (x.0.items, x.1.now)) result
-        (spec.further_descriptions turns all.items tokens.now) }
+        (spec.descriptions_tail turns all.items tokens.now) }
 {
     if turns == 0 {
         return Err(syntax_at(tokens));
     }
-    descriptions_on(alloc, turns - 1, all, tokens)
+    descriptions_tail_on(alloc, turns - 1, all, tokens)
 }
 
 #[cycle(descriptions)]
-#[tactic(auto, unfolding(crate::specs::Steps::ReadingScripts::descriptions_on))]
-fn descriptions_on<'a>(
+#[tactic(auto, unfolding(crate::specs::Steps::ReadingScripts::descriptions_tail_on))]
+fn descriptions_tail_on<'a>(
     alloc: Global,
     turns: usize,
     all: Vec<Description>,
     tokens: &'a [Token],
 ) -> Result<(Vec<Description>, &'a [Token]), ParseFault>
     ensures { Gives (λ x. (x.0.items, x.1.now)) result
-        (spec.descriptions_on (spec.further_descriptions turns) all.items tokens.now) }
+        (spec.descriptions_tail_on (spec.descriptions_tail turns) all.items tokens.now) }
 {
     if !is_at(Mark::Comma, tokens) {
         return Ok((all, tokens));
@@ -76,7 +76,7 @@ fn descriptions_on<'a>(
     let mut all = all;
     let (next, rest) = description(alloc, tail(tokens))?;
     put(&mut all, next)?;
-    further_descriptions(alloc, turns, all, rest)
+    descriptions_tail(alloc, turns, all, rest)
 }
 
 #[tactic(auto, unfolding(crate::specs::Steps::ReadingScripts::descriptions_reader))]
@@ -90,7 +90,7 @@ fn descriptions(
     let (first, rest) = description(alloc, tokens)?;
     let mut all = Vec::new(alloc);
     put(&mut all, first)?;
-    further_descriptions(alloc, fuel, all, rest)
+    descriptions_tail(alloc, fuel, all, rest)
 }
 
 #[tactic(auto, unfolding(crate::specs::Steps::ReadingScripts::predicate_reader))]
@@ -105,7 +105,7 @@ fn predicate(
     if !is_at(Mark::Slash, tokens) {
         return Ok((None, tokens));
     }
-    let (test, rest) = phrase(alloc, fuel, ASSIGNMENT, tail(tokens))?;
+    let (test, rest) = expr(alloc, fuel, ASSIGNMENT, tail(tokens))?;
     after_mark(Mark::ClosingSlash, rest).map(|rest| (Some(test), rest))
 }
 

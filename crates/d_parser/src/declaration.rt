@@ -12,9 +12,9 @@ use d_lexer::{ByteString, Mark, Token, TokenKind};
 use std::alloc::Global;
 
 /// The type that the words at the front spell.
-#[tactic(auto, unfolding(crate::specs::Steps::ReadingScripts::whole_type))]
-fn whole_type(tokens: &[Token]) -> Result<(DeclaredType, &[Token]), ParseFault>
-    ensures { Gives (λ x. (x.0, x.1.now)) result (spec.whole_type tokens.now) }
+#[tactic(auto, unfolding(crate::specs::Steps::ReadingScripts::declared_type))]
+fn declared_type(tokens: &[Token]) -> Result<(DeclaredType, &[Token]), ParseFault>
+    ensures { Gives (λ x. (x.0, x.1.now)) result (spec.declared_type tokens.now) }
 {
     let (words, rest) = split_run(tokens);
     match type_of(words) {
@@ -26,37 +26,37 @@ fn whole_type(tokens: &[Token]) -> Result<(DeclaredType, &[Token]), ParseFault>
 /// The types after commas, and the closing bracket.
 #[cycle(types)]
 #[tactic(auto, using(crate::proofs::Steps::types_step, crate::proofs::Steps::types_none))]
-fn further_types(
+fn types_tail(
     turns: usize,
     all: Vec<DeclaredType>,
     tokens: &[Token],
 ) -> Result<(Vec<DeclaredType>, &[Token]), ParseFault>
     ensures { Gives (λ x. (x.0.items, x.1.now)) result
-        (spec.further_types turns all.items tokens.now) }
+        (spec.types_tail turns all.items tokens.now) }
 {
     if turns == 0 {
         return Err(syntax_at(tokens));
     }
-    types_on(turns - 1, all, tokens)
+    types_tail_on(turns - 1, all, tokens)
 }
 
 #[cycle(types)]
-#[tactic(auto, unfolding(crate::specs::Steps::ReadingScripts::types_on))]
-fn types_on(
+#[tactic(auto, unfolding(crate::specs::Steps::ReadingScripts::types_tail_on))]
+fn types_tail_on(
     turns: usize,
     all: Vec<DeclaredType>,
     tokens: &[Token],
 ) -> Result<(Vec<DeclaredType>, &[Token]), ParseFault>
     ensures { Gives (λ x. (x.0.items, x.1.now)) result
-        (spec.types_on (spec.further_types turns) all.items tokens.now) }
+        (spec.types_tail_on (spec.types_tail turns) all.items tokens.now) }
 {
     if !is_at(Mark::Comma, tokens) {
         return after_mark(Mark::CloseBracket, tokens).map(|rest| (all, rest));
     }
     let mut all = all;
-    let (next, rest) = whole_type(tail(tokens))?;
+    let (next, rest) = declared_type(tail(tokens))?;
     all.push(next)?;
-    further_types(turns, all, rest)
+    types_tail(turns, all, rest)
 }
 
 /// Types in brackets, or nothing.
@@ -71,10 +71,10 @@ fn key_types(
     if !is_at(Mark::OpenBracket, tokens) {
         return Ok((Vec::new(alloc), tokens));
     }
-    let (first, rest) = whole_type(tail(tokens))?;
+    let (first, rest) = declared_type(tail(tokens))?;
     let mut all = Vec::new(alloc);
     all.push(first)?;
-    further_types(fuel, all, rest)
+    types_tail(fuel, all, rest)
 }
 
 fn word_of(alloc: Global, token: &Token) -> Result<ByteString, ParseFault>

@@ -32,10 +32,10 @@ fn closed_list<'a>(
     ensures { Gives (λ x. (trees_of x.0.items, x.1.now)) result
         (steps.closed_list (steps.readers fuel) close tokens.now) }
 {
-    let (first, rest) = phrase(alloc, fuel, ASSIGNMENT, tokens)?;
+    let (first, rest) = expr(alloc, fuel, ASSIGNMENT, tokens)?;
     let mut all = Vec::new(alloc);
     all.push(first)?;
-    let (all, rest) = further(alloc, fuel, all, rest)?;
+    let (all, rest) = exprs_tail(alloc, fuel, all, rest)?;
     after_mark(close, rest).map(|rest| (all, rest))
 }
 
@@ -111,8 +111,8 @@ fn target<'a>(
 /// What follows a target: `++`, `--`, an assignment, or nothing.
 #[cycle(expression)]
 #[inline(never)]
-#[tactic(auto, unfolding(crate::specs::Steps::Reading::follows))]
-fn follows<'a>(
+#[tactic(auto, unfolding(crate::specs::Steps::Reading::target_tail))]
+fn target_tail<'a>(
     alloc: Global,
     fuel: usize,
     level: u8,
@@ -120,7 +120,7 @@ fn follows<'a>(
     tokens: &'a [Token],
 ) -> Result<(Expr, &'a [Token]), ParseFault>
     ensures { Gives (λ x. (tree_of x.0, x.1.now)) result
-        (steps.follows (steps.readers fuel) level (target_of target) tokens.now) }
+        (steps.target_tail (steps.readers fuel) level (target_of target) tokens.now) }
 {
     match follow_at(tokens) {
         Follow::Step(step) => Ok((build::after(target, step), tail(tokens))),
@@ -128,7 +128,7 @@ fn follows<'a>(
             if level > ASSIGNMENT {
                 return Ok((build::read(target), tokens));
             }
-            let value = phrase(alloc, fuel, ASSIGNMENT, tail(tokens));
+            let value = expr(alloc, fuel, ASSIGNMENT, tail(tokens));
             let (target, (value, rest)) = value.map(|value| (target, value))?;
             let whole = build::assign(alloc, operator, target, value)?;
             Ok((whole, rest))
@@ -140,8 +140,8 @@ fn follows<'a>(
 /// A call, or what a target begins.
 #[cycle(expression)]
 #[inline(never)]
-#[tactic(auto, unfolding(crate::specs::Steps::Reading::part_at_name))]
-fn part_at_name<'a>(
+#[tactic(auto, unfolding(crate::specs::Steps::Reading::post_at_name))]
+fn post_at_name<'a>(
     alloc: Global,
     fuel: usize,
     level: u8,
@@ -149,7 +149,7 @@ fn part_at_name<'a>(
     tokens: &'a [Token],
 ) -> Result<(Expr, &'a [Token]), ParseFault>
     ensures { Gives (λ x. (tree_of x.0, x.1.now)) result
-        (steps.part_at_name
+        (steps.post_at_name
         (steps.readers fuel) level word.entry.name.now word.entry.line tokens.now) }
 {
     if begins_call(word.name, tokens) {
@@ -158,7 +158,7 @@ fn part_at_name<'a>(
         return Ok((build::call(word.line, function, all), rest));
     }
     let (target, rest) = target(alloc, fuel, word, tokens)?;
-    follows(alloc, fuel, level, target, rest)
+    target_tail(alloc, fuel, level, target, rest)
 }
 
 fn begins_call(name: &ByteString, tokens: &[Token]) -> bool
@@ -172,7 +172,7 @@ fn begins_call(name: &ByteString, tokens: &[Token]) -> bool
 
 #[cycle(expression)]
 #[inline(never)]
-#[tactic(auto, unfolding(crate::specs::Steps::Reading::part_at_cast))]
+#[tactic(auto, unfolding(crate::specs::Steps::Reading::unary_at_cast))]
 fn cast<'a>(
     alloc: Global,
     fuel: usize,
@@ -180,10 +180,10 @@ fn cast<'a>(
     tokens: &'a [Token],
 ) -> Result<(Expr, &'a [Token]), ParseFault>
     ensures { Gives (λ x. (tree_of x.0, x.1.now)) result
-        (steps.part_at_cast (steps.readers fuel) line tokens.now) }
+        (steps.unary_at_cast (steps.readers fuel) line tokens.now) }
 {
     let (to, rest) = cast_type(tokens)?;
-    let (operand, rest) = phrase(alloc, fuel, UNARY, rest)?;
+    let (operand, rest) = expr(alloc, fuel, UNARY, rest)?;
     let whole = build::cast(alloc, line, to, operand)?;
     Ok((whole, rest))
 }
@@ -191,20 +191,20 @@ fn cast<'a>(
 /// A cast or an expression, after the opening parenthesis.
 #[cycle(expression)]
 #[inline(never)]
-#[tactic(auto, unfolding(crate::specs::Steps::Reading::part_in_parentheses))]
-fn part_in_parentheses<'a>(
+#[tactic(auto, unfolding(crate::specs::Steps::Reading::unary_in_parentheses))]
+fn unary_in_parentheses<'a>(
     alloc: Global,
     fuel: usize,
     line: usize,
     tokens: &'a [Token],
 ) -> Result<(Expr, &'a [Token]), ParseFault>
     ensures { Gives (λ x. (tree_of x.0, x.1.now)) result
-        (steps.part_in_parentheses (steps.readers fuel) line tokens.now) }
+        (steps.unary_in_parentheses (steps.readers fuel) line tokens.now) }
 {
     if is_typed(tokens) {
         return cast(alloc, fuel, line, tokens);
     }
-    let (inner, rest) = phrase(alloc, fuel, ASSIGNMENT, tokens)?;
+    let (inner, rest) = expr(alloc, fuel, ASSIGNMENT, tokens)?;
     followed(Mark::CloseParenthesis, inner, rest)
 }
 
@@ -218,8 +218,8 @@ fn followed(mark: Mark, inner: Expr, tokens: &[Token]) -> Result<(Expr, &[Token]
 
 /// The target after `++` or `--`.
 #[cycle(expression)]
-#[tactic(auto, unfolding(crate::specs::Steps::Reading::part_at_step))]
-fn part_at_step<'a>(
+#[tactic(auto, unfolding(crate::specs::Steps::Reading::unary_at_step))]
+fn unary_at_step<'a>(
     alloc: Global,
     fuel: usize,
     line: usize,
@@ -227,7 +227,7 @@ fn part_at_step<'a>(
     tokens: &'a [Token],
 ) -> Result<(Expr, &'a [Token]), ParseFault>
     ensures { Gives (λ x. (tree_of x.0, x.1.now)) result
-        (steps.part_at_step (steps.readers fuel) line step tokens.now) }
+        (steps.unary_at_step (steps.readers fuel) line step tokens.now) }
 {
     let [token, rest @ ..] = tokens else {
         return Err(ParseFault::Syntax { line: AT_END });
@@ -242,11 +242,11 @@ fn part_at_step<'a>(
     }
 }
 
-/// After a mark that begins a part.
+/// A unary expression, after the mark that begins it.
 #[cycle(expression)]
 #[inline(never)]
-#[tactic(auto, unfolding(crate::specs::Steps::Reading::part_at_mark))]
-fn part_at_mark<'a>(
+#[tactic(auto, unfolding(crate::specs::Steps::Reading::unary_at_mark))]
+fn unary_at_mark<'a>(
     alloc: Global,
     fuel: usize,
     mark: Mark,
@@ -254,33 +254,33 @@ fn part_at_mark<'a>(
     tokens: &'a [Token],
 ) -> Result<(Expr, &'a [Token]), ParseFault>
     ensures { Gives (λ x. (tree_of x.0, x.1.now)) result
-        (steps.part_at_mark (steps.readers fuel) mark line tokens.now) }
+        (steps.unary_at_mark (steps.readers fuel) mark line tokens.now) }
 {
     if mark == Mark::OpenParenthesis {
-        return part_in_parentheses(alloc, fuel, line, tokens);
+        return unary_in_parentheses(alloc, fuel, line, tokens);
     }
     match prefix_of(mark) {
         Prefix::Unary(operator) => {
-            let (operand, rest) = phrase(alloc, fuel, UNARY, tokens)?;
+            let (operand, rest) = expr(alloc, fuel, UNARY, tokens)?;
             let whole = build::unary(alloc, line, operator, operand)?;
             Ok((whole, rest))
         }
-        Prefix::Step(step) => part_at_step(alloc, fuel, line, step, tokens),
+        Prefix::Step(step) => unary_at_step(alloc, fuel, line, step, tokens),
         Prefix::Other => Err(ParseFault::Syntax { line }),
     }
 }
 
-/// A unary part, or where the level allows it an assignment.
+/// A unary expression, or where the level allows it an assignment.
 #[cycle(expression)]
-#[tactic(auto, unfolding(crate::specs::Steps::Reading::part))]
-fn part<'a>(
+#[tactic(auto, unfolding(crate::specs::Steps::Reading::unary))]
+fn unary<'a>(
     alloc: Global,
     fuel: usize,
     level: u8,
     tokens: &'a [Token],
 ) -> Result<(Expr, &'a [Token]), ParseFault>
     ensures { Gives (λ x. (tree_of x.0, x.1.now)) result
-        (steps.part (steps.readers fuel) level tokens.now) }
+        (steps.unary (steps.readers fuel) level tokens.now) }
 {
     let [token, rest @ ..] = tokens else {
         return Err(ParseFault::Syntax { line: AT_END });
@@ -295,17 +295,17 @@ fn part<'a>(
             Ok((build::text(token.line, bytes), rest))
         }
         TokenKind::Word(name) => {
-            part_at_name(alloc, fuel, level, Word::new(name, token.line), rest)
+            post_at_name(alloc, fuel, level, Word::new(name, token.line), rest)
         }
-        TokenKind::Mark(mark) => part_at_mark(alloc, fuel, *mark, token.line, rest),
+        TokenKind::Mark(mark) => unary_at_mark(alloc, fuel, *mark, token.line, rest),
         _ => Err(ParseFault::Syntax { line: token.line }),
     }
 }
 
-/// The left part, joined by the operators of this level or above to what follows it.
+/// The left operand, joined by the operators of this level or above to what follows it.
 #[cycle(expression)]
-#[tactic(auto, using(crate::proofs::Steps::climb_step, crate::proofs::Steps::climb_none))]
-fn climb<'a>(
+#[tactic(auto, using(crate::proofs::Steps::binary_tail))]
+fn binary_tail<'a>(
     alloc: Global,
     fuel: usize,
     level: u8,
@@ -313,19 +313,19 @@ fn climb<'a>(
     tokens: &'a [Token],
 ) -> Result<(Expr, &'a [Token]), ParseFault>
     ensures { Gives (λ x. (tree_of x.0, x.1.now)) result
-        ((steps.readers fuel).climb level (tree_of left) tokens.now) }
+        ((steps.readers fuel).binary_tail level (tree_of left) tokens.now) }
 {
     if fuel == 0 {
         drop(left);
         return Err(syntax_at(tokens));
     }
-    climb_on(alloc, fuel - 1, level, left, tokens)
+    binary_tail_on(alloc, fuel - 1, level, left, tokens)
 }
 
 #[cycle(expression)]
 #[inline(never)]
-#[tactic(auto, unfolding(crate::specs::Steps::Reading::climb_on))]
-fn climb_on<'a>(
+#[tactic(auto, unfolding(crate::specs::Steps::Reading::binary_tail_on))]
+fn binary_tail_on<'a>(
     alloc: Global,
     fuel: usize,
     level: u8,
@@ -333,17 +333,17 @@ fn climb_on<'a>(
     tokens: &'a [Token],
 ) -> Result<(Expr, &'a [Token]), ParseFault>
     ensures { Gives (λ x. (tree_of x.0, x.1.now)) result
-        (steps.climb_on (steps.readers fuel) level (tree_of left) tokens.now) }
+        (steps.binary_tail_on (steps.readers fuel) level (tree_of left) tokens.now) }
 {
     match follow_at(tokens) {
         Follow::Infix(operator) => {
             if operator.level() < level {
                 return Ok((left, tokens));
             }
-            let right = phrase(alloc, fuel, operator.level() + 1, tail(tokens));
+            let right = expr(alloc, fuel, operator.level() + 1, tail(tokens));
             let (left, (right, rest)) = right.map(|right| (left, right))?;
             let joined = build::binary(alloc, operator, left, right)?;
-            climb(alloc, fuel, level, joined, rest)
+            binary_tail(alloc, fuel, level, joined, rest)
         }
         _ => Ok((left, tokens)),
     }
@@ -352,8 +352,8 @@ fn climb_on<'a>(
 /// A condition goes on with a question mark.
 #[cycle(expression)]
 #[inline(never)]
-#[tactic(auto, unfolding(crate::specs::Steps::Reading::choice))]
-fn choice<'a>(
+#[tactic(auto, unfolding(crate::specs::Steps::Reading::cond_tail))]
+fn cond_tail<'a>(
     alloc: Global,
     fuel: usize,
     level: u8,
@@ -361,7 +361,7 @@ fn choice<'a>(
     tokens: &'a [Token],
 ) -> Result<(Expr, &'a [Token]), ParseFault>
     ensures { Gives (λ x. (tree_of x.0, x.1.now)) result
-        (steps.choice (steps.readers fuel) level (tree_of test) tokens.now) }
+        (steps.cond_tail (steps.readers fuel) level (tree_of test) tokens.now) }
 {
     if level > CONDITION {
         return Ok((test, tokens));
@@ -389,80 +389,80 @@ fn alternatives<'a>(
     ensures { Gives (λ x. ((tree_of x.0.0, tree_of x.0.1), x.1.now)) result
         (steps.alternatives (steps.readers fuel) tokens.now) }
 {
-    let (first, rest) = phrase(alloc, fuel, ASSIGNMENT, tokens)?;
+    let (first, rest) = expr(alloc, fuel, ASSIGNMENT, tokens)?;
     let (first, rest) = followed(Mark::Colon, first, rest)?;
-    let second = phrase(alloc, fuel, CONDITION, rest);
+    let second = expr(alloc, fuel, CONDITION, rest);
     second.map(|(second, rest)| ((first, second), rest))
 }
 
-/// A phrase of the level.
+/// An expression of the level.
 #[cycle(expression)]
-#[tactic(auto, using(crate::proofs::Steps::phrase_step, crate::proofs::Steps::phrase_none))]
-pub(crate) fn phrase<'a>(
+#[tactic(auto, using(crate::proofs::Steps::expr_step, crate::proofs::Steps::expr_none))]
+pub(crate) fn expr<'a>(
     alloc: Global,
     fuel: usize,
     level: u8,
     tokens: &'a [Token],
 ) -> Result<(Expr, &'a [Token]), ParseFault>
     ensures { Gives (λ x. (tree_of x.0, x.1.now)) result
-        ((steps.readers fuel).phrase level tokens.now) }
+        ((steps.readers fuel).expr level tokens.now) }
 {
     if fuel == 0 {
         return Err(syntax_at(tokens));
     }
-    whole(alloc, fuel - 1, level, tokens)
+    expr_on(alloc, fuel - 1, level, tokens)
 }
 
 #[cycle(expression)]
-#[tactic(auto, unfolding(crate::specs::Steps::Reading::whole, crate::specs::Steps::Reading::operand))]
-fn whole<'a>(
+#[tactic(auto, unfolding(crate::specs::Steps::Reading::expr_on, crate::specs::Steps::Reading::binary))]
+fn expr_on<'a>(
     alloc: Global,
     fuel: usize,
     level: u8,
     tokens: &'a [Token],
 ) -> Result<(Expr, &'a [Token]), ParseFault>
     ensures { Gives (λ x. (tree_of x.0, x.1.now)) result
-        (steps.whole (steps.readers fuel) level tokens.now) }
+        (steps.expr_on (steps.readers fuel) level tokens.now) }
 {
-    let (first, rest) = part(alloc, fuel, level, tokens)?;
-    let (joined, rest) = climb(alloc, fuel, level.max(OR), first, rest)?;
-    choice(alloc, fuel, level, joined, rest)
+    let (first, rest) = unary(alloc, fuel, level, tokens)?;
+    let (joined, rest) = binary_tail(alloc, fuel, level.max(OR), first, rest)?;
+    cond_tail(alloc, fuel, level, joined, rest)
 }
 
 /// The expressions after a comma.
 #[cycle(expression)]
-#[tactic(auto, using(crate::proofs::Steps::further_step, crate::proofs::Steps::further_none))]
-fn further<'a>(
+#[tactic(auto, using(crate::proofs::Steps::exprs_tail_step, crate::proofs::Steps::exprs_tail_none))]
+fn exprs_tail<'a>(
     alloc: Global,
     fuel: usize,
     all: Vec<Expr>,
     tokens: &'a [Token],
 ) -> Result<(Vec<Expr>, &'a [Token]), ParseFault>
     ensures { Gives (λ x. (trees_of x.0.items, x.1.now)) result
-        ((steps.readers fuel).further (trees_of all.items) tokens.now) }
+        ((steps.readers fuel).exprs_tail (trees_of all.items) tokens.now) }
 {
     if fuel == 0 {
         return Err(syntax_at(tokens));
     }
-    further_on(alloc, fuel - 1, all, tokens)
+    exprs_tail_on(alloc, fuel - 1, all, tokens)
 }
 
 #[cycle(expression)]
-#[tactic(auto, unfolding(crate::specs::Steps::Reading::further_on), using(crate::proofs::Rows::trees_push))]
-fn further_on<'a>(
+#[tactic(auto, unfolding(crate::specs::Steps::Reading::exprs_tail_on), using(crate::proofs::Rows::trees_push))]
+fn exprs_tail_on<'a>(
     alloc: Global,
     fuel: usize,
     all: Vec<Expr>,
     tokens: &'a [Token],
 ) -> Result<(Vec<Expr>, &'a [Token]), ParseFault>
     ensures { Gives (λ x. (trees_of x.0.items, x.1.now)) result
-        (steps.further_on (steps.readers fuel) (trees_of all.items) tokens.now) }
+        (steps.exprs_tail_on (steps.readers fuel) (trees_of all.items) tokens.now) }
 {
     if !is_at(Mark::Comma, tokens) {
         return Ok((all, tokens));
     }
     let mut all = all;
-    let (next, rest) = phrase(alloc, fuel, ASSIGNMENT, tail(tokens))?;
+    let (next, rest) = expr(alloc, fuel, ASSIGNMENT, tail(tokens))?;
     all.push(next)?;
-    further(alloc, fuel, all, rest)
+    exprs_tail(alloc, fuel, all, rest)
 }

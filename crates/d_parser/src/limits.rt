@@ -1,6 +1,7 @@
 //! The limits that are checked before anything is read.
 
-ghost use Rattle.std.specs.Prelude.{◌≡◌, ◌≤◌, ◌+◌};
+ghost use Rattle.std.specs.Prelude.{◌≡◌, ◌≤◌, ◌+◌, [], ◌∷◌};
+ghost use Rattle.d_parser.specs.Vocabulary.{Mark};
 ghost use Rattle.d_parser.specs.Steps.Depth as depth;
 ghost use Rattle.d_parser.specs.Limits as limits;
 
@@ -50,7 +51,7 @@ pub(crate) fn is_deep(tokens: &[Token]) -> bool
 }
 
 fn opens_clause(token: &Token) -> bool
-    ensures { result ≡ limits.opens_clause token.now.kind }
+    ensures { result ≡ limits.is_among (Mark.OpenBrace ∷ []) token.now.kind }
 {
     matches!(token.kind, TokenKind::Mark(Mark::OpenBrace))
 }

@@ -12,7 +12,7 @@ use d_values::{
     ArithmeticOperator as Arithmetic, ComparisonOperator as Comparison, ShiftOperator as Shift,
 };
 
-/// The level of an assignment, which each expression has at least. From level to level phrases bind
+/// The level of an assignment, which each expression has at least. From level to level they bind
 /// tighter; operators have those from `OR` up to just before `UNARY`, and smaller parts the one
 /// after it.
 pub const ASSIGNMENT: u8 = 1;
@@ -149,7 +149,7 @@ pub(crate) fn follow_at(tokens: &[Token]) -> Follow
 impl BinaryOperator {
     /// How tightly it binds: from `||` up to `*`.
     pub(crate) fn level(self) -> u8
-        ensures value { result ≡ spec.level_of self }
+        ensures value { result ≡ steps.level_of self }
         ensures small { result < UNARY }
     {
         match self {

@@ -3,7 +3,7 @@
 ghost use Rattle.d_parser.specs.{Tree.stmt_of, Tree.stmts_of, Reading.Gives};
 ghost use Rattle.d_parser.specs.Steps.ReadingScripts as spec;
 
-use crate::expression::{arguments, keys, phrase};
+use crate::expression::{arguments, expr, keys};
 use crate::fault::{AT_END, ParseFault};
 use crate::marks::{ASSIGNMENT, is_at, tail};
 use crate::names::{after_mark, syntax_at};
@@ -73,7 +73,7 @@ fn expression<'a>(
 ) -> Result<(Stmt, &'a [Token]), ParseFault>
     ensures { Gives (λ x. (stmt_of x.0, x.1.now)) result (spec.expression fuel tokens.now) }
 {
-    let (expression, rest) = phrase(alloc, fuel, ASSIGNMENT, tokens)?;
+    let (expression, rest) = expr(alloc, fuel, ASSIGNMENT, tokens)?;
     Ok((Stmt::Expression(expression), rest))
 }
 
@@ -95,15 +95,15 @@ fn statement<'a>(
 }
 
 /// Adds the statement at the front, if there is one, to these.
-#[tactic(auto, unfolding(crate::specs::Steps::ReadingScripts::slot), using(crate::proofs::Rows::stmts_push))]
-fn slot<'a>(
+#[tactic(auto, unfolding(crate::specs::Steps::ReadingScripts::optional_stmt), using(crate::proofs::Rows::stmts_push))]
+fn optional_statement<'a>(
     alloc: Global,
     fuel: usize,
     all: Vec<Stmt>,
     tokens: &'a [Token],
 ) -> Result<(Vec<Stmt>, &'a [Token]), ParseFault>
     ensures { Gives (λ x. (stmts_of x.0.items, x.1.now)) result
-        (spec.slot fuel (stmts_of all.items) tokens.now) }
+        (spec.optional_stmt fuel (stmts_of all.items) tokens.now) }
 {
     if is_at(Mark::Semicolon, tokens) || is_at(Mark::CloseBrace, tokens) {
         return Ok((all, tokens));
@@ -116,14 +116,14 @@ fn slot<'a>(
 
 /// The statements after semicolons, and the closing brace.
 #[tactic(auto, using(crate::proofs::Steps::stmts))]
-fn further<'a>(
+fn statements_tail<'a>(
     alloc: Global,
     fuel: usize,
     all: Vec<Stmt>,
     tokens: &'a [Token],
 ) -> Result<(Vec<Stmt>, &'a [Token]), ParseFault>
     ensures { Gives (λ x. (stmts_of x.0.items, x.1.now)) result
-        (spec.further_stmts fuel fuel (stmts_of all.items) tokens.now) }
+        (spec.stmts_tail fuel fuel (stmts_of all.items) tokens.now) }
 {
     let mut all = all;
     let mut rest = tokens;
@@ -132,7 +132,7 @@ fn further<'a>(
             return Ok((all, tail(rest)));
         }
         let first = after_mark(Mark::Semicolon, rest)?;
-        let (longer, later) = slot(alloc, fuel, all, first)?;
+        let (longer, later) = optional_statement(alloc, fuel, all, first)?;
         all = longer;
         rest = later;
     }
@@ -148,6 +148,6 @@ pub(crate) fn statements<'a>(
 ) -> Result<(Vec<Stmt>, &'a [Token]), ParseFault>
     ensures { Gives (λ x. (stmts_of x.0.items, x.1.now)) result (spec.stmts fuel tokens.now) }
 {
-    let (all, rest) = slot(alloc, fuel, Vec::new(alloc), tokens)?;
-    further(alloc, fuel, all, rest)
+    let (all, rest) = optional_statement(alloc, fuel, Vec::new(alloc), tokens)?;
+    statements_tail(alloc, fuel, all, rest)
 }

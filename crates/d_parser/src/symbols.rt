@@ -1,7 +1,8 @@
 //! Operators and types as a script writes them.
 
 ghost use Rattle.std.specs.Prelude.{◌≡◌, Some};
-ghost use Rattle.d_parser.specs.Marks.{unary_mark, step_mark, binary_mark, assign_mark};
+ghost use Rattle.d_parser.specs.Marks.{unary_mark, step_mark, assign_mark};
+ghost use Rattle.d_parser.specs.Symbols.{binary_mark};
 ghost use Rattle.d_parser.specs.Symbols as spec;
 
 use crate::operators::{AssignOperator, BinaryOperator, LogicOperator, Step, UnaryOperator};

@@ -36,7 +36,7 @@ fn is(word: &[u8], spelled: &str) -> bool
 }
 
 fn unsigned_kind(word: &[u8]) -> WordKind
-    ensures { result ≡ spec.kind_among steps.unsigned_words word.now }
+    ensures { result ≡ steps.kind_among steps.unsigned_words word.now }
 {
     if is(word, "uint8_t") {
         WordKind::Fixed(IntegerType::Uint8)
@@ -52,7 +52,7 @@ fn unsigned_kind(word: &[u8]) -> WordKind
 }
 
 fn fixed_kind(word: &[u8]) -> WordKind
-    ensures { result ≡ spec.kind_among steps.fixed_words word.now }
+    ensures { result ≡ steps.kind_among steps.fixed_words word.now }
 {
     if is(word, "int8_t") {
         WordKind::Fixed(IntegerType::Int8)
@@ -68,7 +68,7 @@ fn fixed_kind(word: &[u8]) -> WordKind
 }
 
 fn integer_kind(word: &[u8]) -> WordKind
-    ensures { result ≡ spec.kind_among steps.integer_words word.now }
+    ensures { result ≡ steps.kind_among steps.integer_words word.now }
 {
     if is(word, "char") {
         WordKind::Char

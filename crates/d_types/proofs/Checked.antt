@@ -1,5 +1,5 @@
 -- The walk over a script gives the one answer that its rules give.
-use Rattle.std.proofs.Common.{◌≡◌, ◌≢◌, ◌≤◌, ℕ, nat_le, inl, inr, List, [], ◌∷◌, ◌++◌, length, Bool, true}
+use Rattle.std.proofs.Common.{◌≡◌, ◌≢◌, ◌≤◌, ℕ, nat_le, List, [], ◌∷◌, ◌++◌, length, Bool, true}
 use Rattle.std.proofs.Common.{false, if◌then◌else◌, Option, Some, None, Result, Ok, Err, refl, sym, ap}
 use Rattle.std.proofs.Common.{◌∙◌, subst, append_assoc, append-nil, arith}
 use Rattle.std.proofs.lemmas.Bool.Decides.{nat_tests}
@@ -24,15 +24,15 @@ use Rattle.d_types.specs.Steps.Variables.{fit}
 use Rattle.d_types.specs.Steps.Aggregations.{is_again}
 use Rattle.d_types.proofs.Tables.{kinds_are, same_kinds}
 use Rattle.d_types.proofs.NewAggregations.{again_is, is_same}
-use Rattle.d_types.specs.Checking.{Known, by_rule, by_change, needs, ◌>>◌, evaluated, printed, called, KeysFit, FunctionFits, aggregated, IsChecked}
+use Rattle.d_types.specs.Checking.{Known, gives, by_rule, needs, ◌>>=◌, ◌>>◌, evaluated, printed, called, appended, placed, aggregated, IsChecked}
 use Rattle.d_types.specs.Checking as rules
 use Rattle.d_parser.specs.declared.tree.Constant.TheVariants as literal
 use Rattle.d_types.specs.Formats as formats
 use Rattle.d_types.specs.Lines.{line_of}
 use Rattle.d_types.specs.Needs.{count, need}
-use Rattle.d_types.specs.Rules.{IsInteger, IsPlaceOf}
+use Rattle.d_types.specs.Rules.{IsInteger}
 use Rattle.d_types.specs.Steps.Aggregations.{place_for, new_aggregation, aggregate}
-use Rattle.d_types.specs.Steps.Faults.{Fault, Cause, refuse, unless, Gives, Fails}
+use Rattle.d_types.specs.Steps.Faults.{Fault, Cause, refuse, unless, Gives}
 use Rattle.d_types.specs.Steps.Faults.{◌>>=◌ as and_then}
 use Rattle.d_types.specs.Steps.Faults as cause
 use Rattle.d_types.specs.Steps.Formats.{pieces}
@@ -42,13 +42,13 @@ use Rattle.d_types.specs.Steps.Typing.{only, expr}
 use Rattle.d_types.specs.Steps.Typing as typing
 use Rattle.d_types.specs.Typed.{Typed, Typeds, end, type_of, Action, Evaluate, Trace, Print, Aggregate, Agg, Aggs, ClauseMeant, ScriptMeant}
 use Rattle.d_types.specs.TypedScripts.{typed_script_of, IsCheckOf}
-use Rattle.d_types.specs.Variables.{Rows, find}
+use Rattle.d_types.specs.Variables.{Rows, find, kinds_of_typed}
 use Rattle.d_types.specs.Steps.Variables.{types_in}
 use Rattle.d_types.specs.Words.{callee_named, aggregating_named}
 use Rattle.d_types.proofs.CheckedExpressions.{same_fault, expression_decided, whole_decided, wholes_decided, small_enough, is_small}
-use Rattle.d_types.proofs.Decided.{type_fault_at, type_fault_of, at, with_rows, with_both, answer, Decides, given, refuses, ruled, follows, met, unmet, tested, of_known}
-use Rattle.d_types.proofs.Sound.{bound, within, is_some_of}
-use Rattle.d_types.proofs.SoundScripts.{ok_is, only_is, exit_by_sound, joins_sound}
+use Rattle.d_types.proofs.Decided.{type_fault_at, type_fault_of, at, with_rows, with_both, answer, Decides, given, refuses, ruled, follows, got, lost, met, unmet, tested, of_known}
+use Rattle.d_types.proofs.Sound.{bound, within, is_some_of, some_is}
+use Rattle.d_types.proofs.SoundScripts.{ok_is, only_is, exit_by_sound}
 use Rattle.d_types.proofs.Spelled.{spelled_is_read}
 use Rattle.d_types.proofs.Spelling.{read_is_spelled}
 
@@ -134,91 +134,43 @@ action_decided (tree.Assign op x keys a) rows aggs = evaluated_decided (tree.Ass
 
 -- ---- aggregation statements
 
-joins_complete : (line : ℕ) (name : List ℕ) (ks : Typeds) (g : Option AggFn) (aggs : Aggs) (place : ℕ) (known : Aggs) → IsPlaceOf name ks g aggs place known →
-    place_for line name ks g aggs (find_from 0 name aggs) ≡ Ok (place, known)
-joins_complete line name ks g aggs place known (inl h) = rw (h.1, h.2, h.3, h.4, h.5) refl
-joins_complete line name ks g aggs place known (inr h) =
-    rw (h.1, same_kinds h.0.keys ks h.2, is_same g h.0.function h.3, h.4) refl
-
 few_keys : (n : ℕ) → nat_le n 8 ≡ true → n ≤ 8
 few_keys n h = grind (arith, nat_tests, h)
 
 are_few : (n : ℕ) → n ≤ 8 → nat_le n 8 ≡ true
 are_few n h = grind (arith, nat_tests, h)
 
-module _ (line : ℕ) (name : List ℕ) (ks : Typeds) (g : Option AggFn) (arg : Option Typed) (rows : Rows) (aggs : Aggs) where
-  abbrev joined : ℕ × Aggs → Action × (Rows × Aggs)
-  joined a = (Aggregate a.0 ks arg, (rows, a.1))
+abbrev with_aggs : Rows → ℕ × Aggs → ℕ × Known
+with_aggs rows a = (a.0, at rows a.1)
 
-  abbrev joining : Result (ℕ × Aggs) Fault → Result (Action × (Rows × Aggs)) Fault
-  joining r = and_then r (λ a. Ok (joined a))
+module _ (line : ℕ) (name : List ℕ) (ks : Typeds) (g : Option AggFn) (rows : Rows) (aggs : Aggs) where
+  abbrev as_new : AggFn → Agg
+  as_new h = record { name = name; keys = kinds_of_typed ks; function = h }
 
-  abbrev Joins : Known → Action → Known → Type 0
-  Joins known a later = (place : ℕ) × IsPlaceOf name ks g known.aggs place later.aggs × (later.rows ≡ known.rows) × (a ≡ Aggregate place ks arg)
+  bounds_decided : (o : Option AggFn) → g ≡ o
+      → Decides (by_rule (λ h. g ≡ Some h) (fault.LquantizeBounds line) >>= λ h. appended (as_new h)) (at rows aggs) (answer (with_aggs rows) (and_then (unless cause.LquantizeBounds line o) (new_aggregation name ks aggs)))
+  bounds_decided None none = lost _ _ _ _ (λ h e. let never = sym none ∙ e in absurd cc)
+  bounds_decided (Some h) is = got _ _ _ _ h is (λ y e. some_is y h (sym e ∙ is)) _ (record { is = refl; only = λ s e. e })
 
-  last_decided : (r : Result (ℕ × Aggs) Fault) → place_for line name ks g aggs (find_from 0 name aggs) ≡ r → ((h : Fault) → r ≡ Err h → type_fault_of h ≡ fault.LquantizeBounds line)
-      → Decides (by_change Joins (fault.LquantizeBounds line)) (at rows aggs) (answer with_both (joining r))
-  last_decided (Ok q) e fails =
-      ruled Joins (fault.LquantizeBounds line) (at rows aggs) with_both (Ok (joined q))
-      (λ x h.
-      let same : joined q ≡ x = ok_is _ _ h in
-      subst (λ (y : Action × (Rows × Aggs)). Joins (at rows aggs) y.0 (at y.1.0 y.1.1)) same (q.0, joins_sound line name ks g aggs _ q refl e, refl, refl))
-      (λ x later h.
-      let same : q ≡ (h.0, later.aggs) = ok_is _ _ (sym e ∙ joins_complete line name ks g aggs h.0 later.aggs h.1) in
-      (joined q, refl, ap (λ (y : ℕ × Aggs). (Aggregate y.0 ks arg, at rows y.1)) same ∙ ap (λ (r : Rows). (Aggregate h.0 ks arg, at r later.aggs)) (sym h.2) ∙ ap (λ (a : Action). (a, later)) (sym h.3)))
-      (λ h never. absurd cc)
-  last_decided (Err h) e fails =
-      ruled Joins (fault.LquantizeBounds line) (at rows aggs) with_both (Err h)
-      (λ x never. absurd cc)
-      (λ x later p. let never : ◌≡◌ {A = Result (ℕ × Aggs) Fault} (Err h) (Ok (p.0, later.aggs)) = sym e ∙ joins_complete line name ks g aggs p.0 later.aggs p.1 in absurd cc)
-      (λ k same. let is : h ≡ k = cc in ap type_fault_of (sym is) ∙ fails h refl)
+  new_decided : (b : Bool) → nat_le (count ks) 8 ≡ b
+      → Decides (placed line name ks g None) (at rows aggs) (answer (with_aggs rows) (if b then and_then (unless cause.LquantizeBounds line g) (new_aggregation name ks aggs) else refuse cause.Keys line))
+  new_decided true few = met _ _ _ _ (few_keys (count ks) few) _ (bounds_decided g refl)
+  new_decided false many = unmet _ _ _ _ (λ h. let few = are_few (count ks) h in let never = sym many ∙ few in absurd cc)
 
-  abbrev Places : Option (ℕ × Agg) → Type 0
-  Places o = Decides (needs (KeysFit name ks) (fault.Keys line) >> needs (FunctionFits name g) (fault.AggregationRedefined line) >> by_change Joins (fault.LquantizeBounds line)) (at rows aggs) (answer with_both (joining (place_for line name ks g aggs o)))
+  again_decided : (place : ℕ) (a : Agg) (b : Bool) → is_again g a.function ≡ b
+      → Decides (needs (λ known. g ≡ Some a.function) (fault.AggregationRedefined line) >> gives place) (at rows aggs) (answer (with_aggs rows) (if b then Ok (place, aggs) else refuse cause.AggregationRedefined line))
+  again_decided place a true again = met _ _ _ _ (again_is g a.function again) _ (given _ _)
+  again_decided place a false other = unmet _ _ _ _ (λ h. let never = sym other ∙ is_same g a.function h in absurd cc)
 
-  bounds_fail : (o : Option AggFn) (h : Fault) → and_then (unless cause.LquantizeBounds line o) (new_aggregation name ks aggs) ≡ Err h → type_fault_of h ≡ fault.LquantizeBounds line
-  bounds_fail None h e = ap type_fault_of (sym (same_fault cause.LquantizeBounds line h e))
-  bounds_fail (Some x) h e = absurd cc
+  known_decided : (place : ℕ) (a : Agg) (b : Bool) → fit a.keys ks ≡ b
+      → Decides (placed line name ks g (Some (place, a))) (at rows aggs)
+      (answer (with_aggs rows) (if b then (if is_again g a.function then Ok (place, aggs) else refuse cause.AggregationRedefined line) else refuse cause.Keys line))
+  known_decided place a true fits = met _ _ _ _ (kinds_are a.keys ks fits) _ (again_decided place a (is_again g a.function) refl)
+  known_decided place a false others = unmet _ _ _ _ (λ h. let never = sym (same_kinds a.keys ks h) ∙ others in absurd cc)
 
-  new_decided : (b : Bool) → nat_le (count ks) 8 ≡ b → find_from 0 name aggs ≡ None
-      → Decides (needs (KeysFit name ks) (fault.Keys line) >> needs (FunctionFits name g) (fault.AggregationRedefined line) >> by_change Joins (fault.LquantizeBounds line)) (at rows aggs)
-      (answer with_both (joining (if b then and_then (unless cause.LquantizeBounds line g) (new_aggregation name ks aggs) else refuse cause.Keys line)))
-  new_decided true few none =
-      met _ _ _ _ (inl (none, few_keys (count ks) few)) _ (met _ _ _ _ (λ place a h. let never = sym none ∙ h in absurd cc) _
-      (last_decided (and_then (unless cause.LquantizeBounds line g) (new_aggregation name ks aggs)) (rw (none, few) refl) (bounds_fail g)))
-  new_decided false many none =
-      unmet _ _ _ _ (λ h. elim h [
-        | inl p ↦ let few = are_few (count ks) p.1 in let never = sym many ∙ few in absurd cc
-        | inr p ↦ let never = sym none ∙ p.2 in absurd cc
-      ])
-
-  again_decided : (p : ℕ × Agg) (b : Bool) → is_again g p.1.function ≡ b → find_from 0 name aggs ≡ Some p → fit p.1.keys ks ≡ true
-      → Decides (needs (FunctionFits name g) (fault.AggregationRedefined line) >> by_change Joins (fault.LquantizeBounds line)) (at rows aggs)
-      (answer with_both (joining (if b then Ok (p.0, aggs) else refuse cause.AggregationRedefined line)))
-  again_decided p true again here fits =
-      met _ _ _ _
-      (λ place a h. let there : Some p ≡ Some (place, a) = sym here ∙ h in let same : p ≡ (place, a) = cc in subst (λ (q : ℕ × Agg). g ≡ Some q.1.function) same (again_is g p.1.function again)) _
-      (last_decided (Ok (p.0, aggs)) (rw (here, fits, again) refl) (λ h never. absurd cc))
-  again_decided p false other here fits =
-      unmet _ _ _ _ (λ h. let never = sym other ∙ is_same g p.1.function (h p.0 p.1 here) in absurd cc)
-
-  known_decided : (p : ℕ × Agg) (b : Bool) → fit p.1.keys ks ≡ b → find_from 0 name aggs ≡ Some p
-      → Decides (needs (KeysFit name ks) (fault.Keys line) >> needs (FunctionFits name g) (fault.AggregationRedefined line) >> by_change Joins (fault.LquantizeBounds line)) (at rows aggs)
-      (answer with_both (joining (if b then (if is_again g p.1.function then Ok (p.0, aggs) else refuse cause.AggregationRedefined line) else refuse cause.Keys line)))
-  known_decided p true fits here = met _ _ _ _ (inr (p.0, p.1, here, kinds_are p.1.keys ks fits)) _ (again_decided p (is_again g p.1.function) refl here fits)
-  known_decided p false fits here =
-      unmet _ _ _ _ (λ h. elim h [
-        | inl q ↦ let never = sym here ∙ q.0 in absurd cc
-        | inr q ↦
-            let there : Some p ≡ Some (q.0, q.1) = sym here ∙ q.2 in
-            let same : p ≡ (q.0, q.1) = cc in
-            let never : false ≡ true = sym fits ∙ ap (λ (x : ℕ × Agg). fit x.1.keys ks) same ∙ same_kinds q.1.keys ks q.3 in
-            absurd cc
-      ])
-
-  place_decided : (o : Option (ℕ × Agg)) → find_from 0 name aggs ≡ o → Places o
-  place_decided None none = new_decided (nat_le (count ks) 8) refl none
-  place_decided (Some p) here = known_decided p (fit p.1.keys ks) refl here
+  place_decided : (o : Option (ℕ × Agg)) → Decides (placed line name ks g o) (at rows aggs) (answer (with_aggs rows) (place_for line name ks g aggs o))
+  place_decided None = new_decided (nat_le (count ks) 8) refl
+  place_decided (Some (place, a)) = known_decided place a (fit a.keys ks) refl
 
 named_fails : (line : ℕ) (o : Option Aggregating) (h : Fault) → unless cause.Undeclared line o ≡ Err h → type_fault_of h ≡ fault.Undeclared line
 named_fails line None h e = ap type_fault_of (sym (same_fault cause.Undeclared line h e))
@@ -235,7 +187,9 @@ aggregated_decided line name keys word args rows aggs =
     (λ h never. named_fails line (aggregating_named word) h never))
     (λ g f. follows _ _ (at k.1 aggs) (with_rows aggs) with_both (wholes end k.1 args) _ (wholes_decided args k.1 aggs)
     (λ x h. tested _ _ _ _ (arguments_fit g x.0) (record { cause = cause.Mismatch; line = line }) with_both _ refl (λ b. b) (λ b. b)
-    (λ b. place_decided line name k.0 (function g args) (first x.0) x.1 aggs _ refl))))
+    (λ b. let d = place_decided line name k.0 (function g args) x.1 aggs (find_from 0 name aggs) in
+    follows _ _ (at x.1 aggs) (with_aggs x.1) with_both (place_for line name k.0 (function g args) aggs (find_from 0 name aggs)) _ (record { is = d.is; only = d.only })
+    (λ a m. given (Aggregate a.0 k.0 (first x.0)) (at x.1 a.1))))))
 
 -- ---- statements
 

@@ -1,5 +1,5 @@
 -- The walk over an expression gives the one answer that its rules give.
-use Rattle.std.proofs.Common.{◌≡◌, ◌≢◌, ◌≤◌, ◌⊎◌, ℕ, nat_le, inl, inr, List, Bool, true, false}
+use Rattle.std.proofs.Common.{◌≡◌, ◌≢◌, ◌≤◌, ℕ, nat_le, List, Bool, true, false}
 use Rattle.std.proofs.Common.{if◌then◌else◌, Option, Some, None, Result, Ok, Err, refl, sym, ap, ◌∙◌}
 use Rattle.std.proofs.Common.{subst, arith}
 use Rattle.std.proofs.lemmas.Bool.Decides.{nat_tests}
@@ -11,25 +11,27 @@ use Rattle.d_parser.specs.Tree.{Tree, Trees}
 use Rattle.d_values.specs.declared.int_type.DType.{DType}
 use Rattle.d_values.specs.declared.int_type.DType.TheVariants.{Int}
 use Rattle.d_values.specs.Types.{INT64}
-use Rattle.d_types.specs.declared.fault.TypeFault.{TypeFault}
 use Rattle.d_types.specs.declared.fault.TypeFault.TheVariants as fault
 use Rattle.d_types.specs.declared.typed.Answer.{Answer}
 use Rattle.d_types.specs.declared.typed.Answer.TheVariants as w
 use Rattle.d_types.specs.declared.typed.BuiltIn.{BuiltIn}
 use Rattle.d_types.specs.declared.typed.Space.{Space}
+use Rattle.d_types.specs.declared.typed.Variable.{Variable as Slot}
 use Rattle.d_types.specs.declared.typed.Space.TheVariants as s
 use Rattle.d_types.specs.declared.words.Callee.{Callee}
-use Rattle.d_types.specs.Checking.{by_rule, IsTyped, IsNamed, read, target, stepped, needs}
+use Rattle.d_types.specs.Checking.{by_rule, IsVariable, read_own, read, target, stepped, needs}
 use Rattle.d_types.specs.Checking.{expression, expressions, whole, wholes, ◌>>◌}
 use Rattle.d_types.specs.Constants.{int_type, constant}
 use Rattle.d_types.specs.Lines.{line_of_variable, line_of}
 use Rattle.d_types.specs.Needs.{count, need}
-use Rattle.d_types.specs.Rules.{IsOperation, IsChoice, IsRead, IsTargetOf, IsAssignment, IsStep, IsCall}
+use Rattle.d_types.specs.Rules.{IsOperation, IsChoice, IsAssignment, IsStep, IsCall}
+use Rattle.d_types.proofs.WellTyped.{IsTargetOf}
+use Rattle.d_types.proofs.Tables.{keys_are, own_keys}
 use Rattle.d_types.specs.Steps.Faults.{Fault, Cause, refuse, ◌>>=◌ as and_then}
 use Rattle.d_types.specs.Steps.Faults as cause
 use Rattle.d_types.specs.Steps.Operators.{as_type, unary, binary, choice}
 use Rattle.d_types.specs.Steps.Statements as walk
-use Rattle.d_types.specs.Steps.Targets.{plain, load, load_at, read_variable, plain_target, slot_for, assignment, step}
+use Rattle.d_types.specs.Steps.Targets.{plain, load, load_at, read_variable, plain_target, slot_for}
 use Rattle.d_types.specs.Steps.Targets as targets
 use Rattle.d_types.specs.Steps.Typing.{beside, fitting, typed_call, step_rest, expr, exprs}
 use Rattle.d_types.specs.Steps.Typing as typing
@@ -39,9 +41,9 @@ use Rattle.d_types.specs.Steps.Typing.{with_typed}
 use Rattle.d_types.specs.Variables.{Rows, find, type_at}
 use Rattle.d_types.specs.Steps.Variables.{keys_fit}
 use Rattle.d_types.specs.Words.{built_in, callee_named}
-use Rattle.d_types.proofs.Complete.{after, after-add, after-end, joins_complete, chooses_complete, reads_complete, targets_complete, stores_complete, steps_complete, calls_complete}
-use Rattle.d_types.proofs.Decided.{type_fault_of, at, with_rows, answer, Decides, given, refuses, follows, met, unmet, tested, of_rows, of_known}
-use Rattle.d_types.proofs.Sound.{fitted, fitted_pair, unary_sound, cast_sound, joins_sound, chooses_sound, reads_sound, targets_sound, stores_sound, steps_sound, calls_sound}
+use Rattle.d_types.proofs.Complete.{after, after-add, after-end, joins_complete, chooses_complete, targets_complete, stores_complete, steps_complete, calls_complete}
+use Rattle.d_types.proofs.Decided.{type_fault_of, at, with_rows, answer, Decides, given, refuses, follows, got, lost, met, unmet, tested, of_rows, of_known}
+use Rattle.d_types.proofs.Sound.{some_is, fitted, fitted_pair, unary_sound, cast_sound, joins_sound, chooses_sound, targets_sound, stores_sound, steps_sound, calls_sound}
 
 pub same_fault : {X : Type 0} (cause : Cause) (line : ℕ) (f : Fault) → ◌≡◌ {A = Result X Fault} (refuse cause line) (Err f) → record { cause = cause; line = line } ≡ f
 same_fault cause line f h = cc
@@ -61,60 +63,39 @@ fits_decided Rule line rows aggs o sound complete =
 
 -- ---- variables that are read
 
-abbrev ReadFails : Rows → Aggs → Variable → Fault → Type 0
-ReadFails rows aggs x f = ((¬ IsNamed x (at rows aggs)) × (type_fault_of f ≡ fault.Undeclared (line_of_variable x))) ⊎ (IsNamed x (at rows aggs) × (type_fault_of f ≡ fault.Keys (line_of_variable x)))
+plain_read : (line : ℕ) (name : List ℕ) (rows : Rows) (aggs : Aggs) (o : Option BuiltIn) (ks : Typeds) → built_in name ≡ o
+    → Decides (read (v.Plain line name) ks) (at rows aggs) (answer (with_rows aggs) (and_then {B = Typed × Rows} (plain line o ks) (λ y. Ok (y, rows))))
+plain_read line name rows aggs None ks e = lost _ _ _ _ (λ b h. let never = sym e ∙ h in absurd cc)
+plain_read line name rows aggs (Some b) end e = got _ _ _ _ b e (λ y h. some_is y b (sym h ∙ e)) _ (met _ _ _ _ refl _ (given _ _))
+plain_read line name rows aggs (Some b) (more x rest) e = got _ _ _ _ b e (λ y h. some_is y b (sym h ∙ e)) _ (unmet _ _ _ _ (λ never. absurd cc))
 
-load_fails : (space : Space) (name : List ℕ) (line slot : ℕ) (rows : Rows) (o : Option DType) (same : Bool) (ks : Typeds) (f : Fault) → find space name rows ≡ Some slot → type_at rows slot ≡ o → load space line slot o same ks ≡ Err f
-    → ((¬ IsTyped space name rows) × (type_fault_of f ≡ fault.Undeclared line)) ⊎ (IsTyped space name rows × (type_fault_of f ≡ fault.Keys line))
-load_fails space name line slot rows None same ks f here none h =
-    inl (λ p. let there : Some slot ≡ Some p.0 = sym here ∙ p.1 in let is : slot ≡ p.0 = cc in p.2 (ap (type_at rows) (sym is) ∙ none), ap type_fault_of (sym (same_fault cause.Undeclared line f h)))
-load_fails space name line slot rows (Some t) false ks f here known h =
-    inr ((slot, here, λ none. let never = sym known ∙ none in absurd cc), ap type_fault_of (sym (same_fault cause.Keys line f h)))
-load_fails space name line slot rows (Some t) true ks f here known h = cc
+module _ (space : Space) (line : ℕ) (name : List ℕ) (rows : Rows) (aggs : Aggs) (ks : Typeds) where
+  abbrev OwnGives : Result Typed Fault → Type 0
+  OwnGives r = Decides (read_own space line name ks) (at rows aggs) (answer (with_rows aggs) (and_then {B = Typed × Rows} r (λ y. Ok (y, rows))))
 
-load_at_fails : (space : Space) (name : List ℕ) (line : ℕ) (rows : Rows) (o : Option ℕ) (ks : Typeds) (f : Fault) → find space name rows ≡ o → load_at space line rows o ks ≡ Err f
-    → ((¬ IsTyped space name rows) × (type_fault_of f ≡ fault.Undeclared line)) ⊎ (IsTyped space name rows × (type_fault_of f ≡ fault.Keys line))
-load_at_fails space name line rows None ks f e h = inl (λ p. let never = sym e ∙ p.1 in absurd cc, ap type_fault_of (sym (same_fault cause.Undeclared line f h)))
-load_at_fails space name line rows (Some slot) ks f e h = load_fails space name line slot rows _ _ ks f e refl h
+  -- only one variable has this name
+  one_own : (slot : ℕ) (t : DType) → find space name rows ≡ Some slot → type_at rows slot ≡ Some t → (y : Slot) → IsVariable space name rows y → y ≡ record { space = space; slot = slot; holds = t }
+  one_own slot t e known y h =
+      let same : slot ≡ y.slot = some_is slot y.slot (sym e ∙ h.1) in
+      let type_is : t ≡ y.holds = some_is t y.holds (sym known ∙ ap (type_at rows) same ∙ h.2) in
+      let there : record { space = space; slot = slot; holds = t } ≡ y = rw (← h.0, same, type_is) refl in
+      sym there
 
-plain_fails : (name : List ℕ) (line : ℕ) (rows : Rows) (aggs : Aggs) (o : Option BuiltIn) (ks : Typeds) (f : Fault) → built_in name ≡ o → plain line o ks ≡ Err f → ReadFails rows aggs (v.Plain line name) f
-plain_fails name line rows aggs None ks f e h = inl (λ n. n e, ap type_fault_of (sym (same_fault cause.Undeclared line f h)))
-plain_fails name line rows aggs (Some b) end f e h = cc
-plain_fails name line rows aggs (Some b) (more x rest) f e h = inr (λ none. let never = sym e ∙ none in absurd cc, ap type_fault_of (sym (same_fault cause.Keys line f h)))
+  own_load : (slot : ℕ) (o : Option DType) (same : Bool) → find space name rows ≡ Some slot → type_at rows slot ≡ o → keys_fit rows slot ks ≡ same → OwnGives (load space line slot o same ks)
+  own_load slot None same e none k =
+      lost _ _ _ _ (λ y h. let here : slot ≡ y.slot = some_is slot y.slot (sym e ∙ h.1) in let never = sym none ∙ ap (type_at rows) here ∙ h.2 in absurd cc)
+  own_load slot (Some t) true e known k = got _ _ _ _ (record { space = space; slot = slot; holds = t }) (refl, e, known) (one_own slot t e known) _ (met _ _ _ _ (keys_are rows slot ks k) _ (given _ _))
+  own_load slot (Some t) false e known k =
+      got _ _ _ _ (record { space = space; slot = slot; holds = t }) (refl, e, known) (one_own slot t e known) _ (unmet _ _ _ _ (λ h. let never = sym (own_keys rows slot ks h) ∙ k in absurd cc))
 
-read_fails : (rows : Rows) (aggs : Aggs) (x : Variable) (ks : Typeds) (f : Fault) → read_variable rows x ks ≡ Err f → ReadFails rows aggs x f
-read_fails rows aggs (v.Plain line name) ks f h = plain_fails name line rows aggs _ ks f refl h
-read_fails rows aggs (v.Thread line name) ks f h = load_at_fails s.Thread name line rows _ ks f refl h
-read_fails rows aggs (v.Clause line name) ks f h = load_at_fails s.Clause name line rows _ ks f refl h
+  own_read : (o : Option ℕ) → find space name rows ≡ o → OwnGives (load_at space line rows o ks)
+  own_read None e = lost _ _ _ _ (λ y h. let never = sym e ∙ h.1 in absurd cc)
+  own_read (Some slot) e = own_load slot (type_at rows slot) (keys_fit rows slot ks) e refl refl
 
-read_named : (rows : Rows) (aggs : Aggs) (x : Variable) (ks : Typeds) (z : Typed) → IsRead rows x ks z → IsNamed x (at rows aggs)
-read_named rows aggs (v.Plain line name) ks z h = λ none. let never = sym h.1 ∙ none in absurd cc
-read_named rows aggs (v.Thread line name) ks z h = (h.0, h.2, λ none. let never = sym h.3 ∙ none in absurd cc)
-read_named rows aggs (v.Clause line name) ks z h = (h.0, h.2, λ none. let never = sym h.3 ∙ none in absurd cc)
-
-module _ (rows : Rows) (aggs : Aggs) (x : Variable) (ks : Typeds) where
-  abbrev ReadGives : Result Typed Fault → Type 0
-  ReadGives r = Decides (read x ks) (at rows aggs) (answer (with_rows aggs) (and_then {B = Typed × Rows} r (λ y. Ok (y, rows))))
-
-  read_rule : (r : Result Typed Fault) → read_variable rows x ks ≡ r → ((f : Fault) → r ≡ Err f → type_fault_of f ≡ fault.Keys (line_of_variable x)) → IsNamed x (at rows aggs) → ReadGives r
-  read_rule (Ok z) e fails named =
-      met _ _ _ _ named _ (of_known rows aggs (fault.Keys (line_of_variable x)) (Ok (z, rows)) (λ f never. absurd cc) (λ known. IsRead known.rows x ks)
-      (λ y last h. let is : (z, rows) ≡ (y, last) = cc in (subst (IsRead rows x ks) (ap (λ (p : Typed × Rows). p.0) is) (reads_sound rows x ks z e), sym (ap (λ (p : Typed × Rows). p.1) is)))
-      (λ y h. let there : ◌≡◌ {A = Result Typed Fault} (Ok z) (Ok y) = sym e ∙ reads_complete rows x ks y h in let is : z ≡ y = cc in ap (λ (q : Typed). Ok (q, rows)) is))
-  read_rule (Err f) e fails named =
-      met _ _ _ _ named _ (of_known {A = Typed} rows aggs (fault.Keys (line_of_variable x)) (Err f) (λ g h. let is : f ≡ g = cc in ap type_fault_of (sym is) ∙ fails f refl) (λ known. IsRead known.rows x ks)
-      (λ y last h. absurd cc)
-      (λ y h. let never : ◌≡◌ {A = Result Typed Fault} (Err f) (Ok y) = sym e ∙ reads_complete rows x ks y h in absurd cc))
-
-  read_by : (r : Result Typed Fault) → read_variable rows x ks ≡ r → ReadGives r
-  read_by (Ok z) e = read_rule (Ok z) e (λ f never. absurd cc) (read_named rows aggs x ks z (reads_sound rows x ks z e))
-  read_by (Err f) e = elim (read_fails rows aggs x ks f e) [
-    | inl p ↦ subst (λ (g : TypeFault). Decides (read x ks) (at rows aggs) (Err g)) (sym p.1) (unmet _ _ _ _ p.0)
-    | inr p ↦ read_rule (Err f) e (λ g h. let is : f ≡ g = cc in ap type_fault_of (sym is) ∙ p.1) p.0
-  ]
-
-  read_decided : ReadGives (read_variable rows x ks)
-  read_decided = read_by (read_variable rows x ks) refl
+read_decided : (rows : Rows) (aggs : Aggs) (x : Variable) (ks : Typeds) → Decides (read x ks) (at rows aggs) (answer (with_rows aggs) (and_then {B = Typed × Rows} (read_variable rows x ks) (λ y. Ok (y, rows))))
+read_decided rows aggs (v.Plain line name) ks = plain_read line name rows aggs _ ks refl
+read_decided rows aggs (v.Thread line name) ks = own_read s.Thread line name rows aggs ks _ refl
+read_decided rows aggs (v.Clause line name) ks = own_read s.Clause line name rows aggs ks _ refl
 
 -- ---- variables that are assigned
 

@@ -21,8 +21,8 @@ use Rattle.d_types.specs.Steps.Operators.{binary, choice, as_type}
 use Rattle.d_types.specs.Steps.Targets.{read_variable, load_at, target, slot_for, assignment}
 use Rattle.d_types.specs.Steps.Targets.{step}
 use Rattle.d_types.specs.Steps.Typing.{typed_call}
-use Rattle.d_types.specs.Rules.{IsOperation, IsChoice, IsLoad, IsRead, IsSlotOf}
-use Rattle.d_types.specs.Rules.{IsTargetOf}
+use Rattle.d_types.specs.Rules.{IsOperation, IsChoice, IsSlotOf}
+use Rattle.d_types.proofs.WellTyped.{IsLoad, IsRead, IsTargetOf}
 use Rattle.d_types.specs.Rules.{IsConverted, IsAssignment, IsStep, IsCall}
 
 -- the list after what is done

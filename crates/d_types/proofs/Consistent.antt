@@ -34,9 +34,9 @@ use Rattle.d_parser.specs.Numbers.{IsSmall, HasSmall, HaveSmall}
 use Rattle.d_types.specs.Operators.{same_type, conversion_node}
 use Rattle.d_types.proofs.Bounds.{both_true}
 use Rattle.d_types.proofs.WellTyped.{Types, AllTypes}
-use Rattle.d_types.specs.Rules.{IsInteger, IsOperation, IsChoice, IsLoad, IsRead}
-use Rattle.d_types.specs.Rules.{IsSlotOf}
-use Rattle.d_types.specs.Rules.{IsTargetOf, IsConverted, IsAssignment, IsStep, IsCall}
+use Rattle.d_types.specs.Rules.{IsInteger, IsOperation, IsChoice, IsSlotOf, IsConverted}
+use Rattle.d_types.specs.Rules.{IsAssignment, IsStep, IsCall}
+use Rattle.d_types.proofs.WellTyped.{IsLoad, IsRead, IsTargetOf}
 use Rattle.d_types.specs.Targets.{new_row, settle_slot, space_of, type_at_once}
 use Rattle.d_types.specs.Typed as typed
 use Rattle.d_types.specs.Typed.{Typed, Typeds, end, more, type_of}

@@ -109,6 +109,29 @@ module _ {A B X Y : Type 0} (m : Checked A) (next : A → Checked B) (known : Kn
     ];
   }
 
+-- ---- a rule that changes nothing, and then another check
+
+module _ {A B : Type 0} (Rule : Known → A → Type 0) (fault : TypeFault) (known : Known) (next : A → Checked B) where
+  pub got : (x : A) → Rule known x → ((y : A) → Rule known y → y ≡ x) → (r : Result (B × Known) TypeFault) → Decides (next x) known r → Decides (by_known Rule fault >>= next) known r
+  unfolding ◌>>=◌ by_change
+  got x is one r d = record {
+    is = inl (x, known, (is, refl), d.is);
+    only = λ s h. elim h [
+      | inl p ↦ d.only s (subst (λ (y : A). next y known s) (one p.0 p.2.0) (subst (λ (k : Known). next p.0 k s) p.2.1 p.3))
+      | inr p ↦ absurd (p.1.0 (x, known, (is, refl)))
+    ];
+  }
+
+  pub lost : ((x : A) → ¬ Rule known x) → Decides (by_known Rule fault >>= next) known (Err fault)
+  unfolding ◌>>=◌ by_change
+  lost never = record {
+    is = inr (fault, (λ p. never p.0 p.2.0, refl), refl);
+    only = λ s h. elim h [
+      | inl p ↦ absurd (never p.0 p.2.0)
+      | inr p ↦ p.2 ∙ ap (λ (g : TypeFault). Err g) p.1.1
+    ];
+  }
+
 -- ---- what has to be so
 
 module _ {B : Type 0} (IsSo : Known → Type 0) (fault : TypeFault) (known : Known) (next : Unit {0} → Checked B) where

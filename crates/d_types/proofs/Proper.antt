@@ -37,7 +37,7 @@ use Rattle.d_types.proofs.OneConsistency.{integer_prop}
 use Rattle.d_values.specs.declared.int_type.DType.{DType}
 use Rattle.d_values.specs.declared.int_type.DType.TheVariants as ty
 use Rattle.d_types.proofs.WellTyped.{Acts, Stands, Tests, Does, AllDo, Probes}
-use Rattle.d_types.specs.Rules.{IsPlaceOf}
+use Rattle.d_types.proofs.WellTyped.{IsPlaceOf}
 use Rattle.d_types.proofs.WellTyped.{AllItems}
 use Rattle.d_types.proofs.WellTyped.{IsWell}
 use Rattle.d_types.specs.Proper.{HasArgument, Suits, IsProperAction, IsProperPredicate}

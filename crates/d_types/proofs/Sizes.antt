@@ -33,8 +33,8 @@ use Rattle.d_types.specs.Steps.Scripts.{script}
 use Rattle.d_types.specs.Scripts.{IsMeant}
 use Rattle.d_types.proofs.Checked.{meant_is_walked}
 use Rattle.d_types.proofs.WellTyped.{Types, AllTypes}
-use Rattle.d_types.specs.Rules.{IsOperation, IsChoice, IsRead, IsConverted, IsAssignment}
-use Rattle.d_types.specs.Rules.{IsCall}
+use Rattle.d_types.specs.Rules.{IsOperation, IsChoice, IsConverted, IsAssignment, IsCall}
+use Rattle.d_types.proofs.WellTyped.{IsRead}
 use Rattle.d_types.proofs.WellTyped.{Evaluates, Prints, Acts, Stands, Tests, Does, AllDo, Probes}
 use Rattle.d_types.proofs.WellTyped.{AllItems, IsWell}
 use Rattle.d_types.specs.Sizes.{place_count, place_count_in, in_option, in_action}

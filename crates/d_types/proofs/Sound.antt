@@ -44,10 +44,9 @@ use Rattle.d_types.specs.Steps.Targets.{store_node, assignment, step}
 use Rattle.d_types.specs.Lines.{line_of}
 use Rattle.d_types.specs.Steps.Typing.{strlen, strjoin, call, typed_call, beside, fitting}
 use Rattle.d_types.specs.Steps.Typing.{step_rest, expr, exprs}
-use Rattle.d_types.proofs.WellTyped.{Types, AllTypes}
+use Rattle.d_types.proofs.WellTyped.{IsLoad, IsRead, IsTargetOf, Types, AllTypes}
 use Rattle.d_types.specs.Rules.{IsInteger, HasTextType, IsOperation, IsChoice}
-use Rattle.d_types.specs.Rules.{IsLoad, IsRead}
-use Rattle.d_types.specs.Rules.{IsSlotOf, IsTargetOf, IsConverted, IsAssignment, IsStep, IsCall}
+use Rattle.d_types.specs.Rules.{IsSlotOf, IsConverted, IsAssignment, IsStep, IsCall}
 use Rattle.d_types.proofs.Complete.{after, after-add, after-end}
 
 pub bound : {A B : Type 0} (r : Result A Fault) (go : A → Result B Fault) (y : B) → (r >>= go) ≡ Ok y → (x : A) × (r ≡ Ok x) × (go x ≡ Ok y)

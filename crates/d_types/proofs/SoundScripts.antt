@@ -45,7 +45,7 @@ use Rattle.d_types.specs.Steps.Scripts.{clause, item, items, script}
 use Rattle.d_types.proofs.WellTyped.{Types, AllTypes}
 use Rattle.d_types.specs.Rules.{IsInteger}
 use Rattle.d_types.proofs.WellTyped.{Evaluates, Prints, Acts, Stands, Aggregates}
-use Rattle.d_types.specs.Rules.{IsPlaceOf}
+use Rattle.d_types.proofs.WellTyped.{IsPlaceOf}
 use Rattle.d_types.proofs.WellTyped.{Declares}
 use Rattle.d_types.proofs.WellTyped.{DeclaresRow, Tests, Does, AllDo, Probes, AllItems, IsWell}
 use Rattle.d_types.proofs.Complete.{after, after-add, after-end}

@@ -1,23 +1,52 @@
 -- Derivations by the rules: which expressions and scripts are well typed, with no faults.
-use Rattle.std.specs.Prelude.{◌≡◌, ℕ, nat_le, List, [], ◌∷◌, ◌++◌, length, true, Option, Some, None}
-use Rattle.d_types.specs.Vocabulary.{Int, Tree, Trees, IntType, INT64, promoted_of, Answer, Space}
+use Rattle.std.specs.Prelude.{◌≡◌, ◌⊎◌, ℕ, nat_le, List, [], ◌∷◌, ◌++◌, length, true, Option, Some}
+use Rattle.std.specs.Prelude.{None}
+use Rattle.d_types.specs.Vocabulary.{Int, Tree, Trees, DType, IntType, INT64, promoted_of, Answer}
+use Rattle.d_types.specs.Vocabulary.{BuiltIn, Space}
 use Rattle.d_types.specs.Vocabulary.{Callee, DeclaredType, DeclarationTree, StmtTree, ItemTree}
-use Rattle.d_types.specs.Vocabulary.{ClauseTree, Piece, MOST_KEYS, Aggregating}
+use Rattle.d_types.specs.Vocabulary.{ClauseTree, Piece, MOST_KEYS, AggFn, Aggregating}
 use Rattle.d_types.specs.Typed.{Typed, Typeds, end, more, Action, Evaluate, Trace, Print, Exit}
-use Rattle.d_types.specs.Typed.{Aggregate, Aggs, ClauseMeant, ScriptMeant}
-use Rattle.d_types.specs.Variables.{Rows, find}
+use Rattle.d_types.specs.Typed.{Aggregate, Agg, Aggs, ClauseMeant, ScriptMeant}
+use Rattle.d_types.specs.Needs.{count}
+use Rattle.d_types.specs.Variables.{Rows, find, type_at, keys_at, kinds_of_typed}
 use Rattle.d_types.specs.Steps.Variables.{types_in}
 use Rattle.d_types.specs.Constants.{int_type, constant, declared_type}
 use Rattle.d_types.specs.Steps.Statements.{text_of_constant}
 use Rattle.d_types.specs.Constants.{declared_kinds}
-use Rattle.d_types.specs.Words.{callee_named, aggregating_named}
+use Rattle.d_types.specs.Words.{built_in, callee_named, aggregating_named}
 use Rattle.d_types.specs.Operators.{conversion_node}
 use Rattle.d_types.specs.Targets.{space_of, type_at_once}
 use Rattle.d_types.specs.Spelling.{SpellsFormat}
-use Rattle.d_types.specs.Aggregations.{arguments_fit, first, function}
-use Rattle.d_types.specs.Rules.{IsInteger, IsOperation, IsChoice, IsRead, IsTargetOf, IsAssignment, IsStep}
-use Rattle.d_types.specs.Rules.{IsCall, IsPlaceOf}
+use Rattle.d_types.specs.Aggregations.{arguments_fit, find_from, first, function}
+use Rattle.d_types.specs.Rules.{IsInteger, IsOperation, IsChoice, IsSlotOf, IsAssignment, IsStep}
+use Rattle.d_types.specs.Rules.{IsCall}
+use Rattle.d_parser.specs.declared.tree.Variable.{Variable}
 use Rattle.d_types.specs.Formats as formats
+
+-- ---- variables
+
+-- z is the variable's value at these keys: it is known, with its type and such keys
+abbrev pub IsLoad : Space → List ℕ → Rows → Typeds → Typed → Type 0
+IsLoad space name rows keys z =
+    (slot : ℕ) × (t : DType) × (find space name rows ≡ Some slot) × (type_at rows slot ≡ Some t)
+    × (keys_at rows slot ≡ Some (kinds_of_typed keys))
+    × (z ≡ Typed.Read (record { space = space; slot = slot; holds = t }) keys)
+
+abbrev pub IsRead : Rows → Variable → Typeds → Typed → Type 0
+IsRead rows (Variable.Plain line name) keys z =
+    (b : BuiltIn) × (built_in name ≡ Some b) × (keys ≡ end) × (z ≡ Typed.Fixed b)
+IsRead rows (Variable.Thread line name) keys z = IsLoad Space.Thread name rows keys z
+IsRead rows (Variable.Clause line name) keys z = IsLoad Space.Clause name rows keys z
+
+-- only variables of threads and of clauses are assigned
+abbrev pub IsTargetOf : Rows → Variable → Option DType → Typeds → ℕ → Rows → Type 0
+IsTargetOf rows (Variable.Plain line name) t keys slot after = ⊥
+IsTargetOf rows (Variable.Thread line name) t keys slot after =
+    IsSlotOf Space.Thread name rows t keys slot after
+IsTargetOf rows (Variable.Clause line name) t keys slot after =
+    IsSlotOf Space.Clause name rows t keys slot after
+
+-- ---- expressions
 
 abbrev mutual
   -- the tree, where the table is the first, has this typed tree and leaves the second
@@ -88,6 +117,15 @@ Stands rows (Tree.Call line name args) a after =
 Stands rows t a after = Evaluates rows t a after
 
 -- ---- aggregation statements
+
+-- the place of an aggregation: new, or with the keys and the function that it had
+abbrev pub IsPlaceOf : List ℕ → Typeds → Option AggFn → Aggs → ℕ → Aggs → Type 0
+IsPlaceOf name ks g aggs place after =
+    ((h : AggFn) × (find_from 0 name aggs ≡ None) × (nat_le (count ks) MOST_KEYS ≡ true)
+    × (g ≡ Some h) × (place ≡ length aggs)
+    × (after ≡ aggs ++ record { name = name; keys = kinds_of_typed ks; function = h } ∷ []))
+    ⊎ ((known : Agg) × (find_from 0 name aggs ≡ Some (place, known))
+    × (known.keys ≡ kinds_of_typed ks) × (g ≡ Some known.function) × (after ≡ aggs))
 
 abbrev pub Aggregates : List ℕ → Trees → List ℕ → Trees → Rows → Aggs → Action → Rows → Aggs
     → Type 0

@@ -7,11 +7,11 @@ use Rattle.d_parser.specs.declared.tree.Variable.{Variable}
 use Rattle.d_types.specs.Vocabulary.{Int, Step, Tree, Trees, DType, INT64, Answer, Callee}
 use Rattle.d_types.specs.Vocabulary.{TypeFault, IntType, AggFn, Piece, Space, MOST_KEYS}
 use Rattle.d_types.specs.Vocabulary.{DeclarationTree, StmtTree, ItemTree, ClauseTree, DeclaredType}
-use Rattle.d_types.specs.Vocabulary.{REGISTERS, promoted_of, Constant}
+use Rattle.d_types.specs.Vocabulary.{REGISTERS, promoted_of, Constant, Variable as Slot}
 use Rattle.d_types.specs.Formats as formats
 use Rattle.d_types.specs.Typed.{Typed, Typeds, end, more, Agg, Aggs, Action, ClauseMeant}
 use Rattle.d_types.specs.Typed.{ScriptMeant, Evaluate, Trace, Print, Exit, Aggregate}
-use Rattle.d_types.specs.Variables.{Rows, find, type_at, kinds_of_typed}
+use Rattle.d_types.specs.Variables.{Rows, find, type_at, keys_at, kinds_of_typed}
 use Rattle.d_types.specs.Words.{built_in, callee_named, aggregating_named}
 use Rattle.d_types.specs.Targets.{space_of, type_at_once, new_row}
 use Rattle.d_types.specs.Operators.{conversion_node}
@@ -20,8 +20,8 @@ use Rattle.d_types.specs.Constants.{constant, declared_kinds}
 use Rattle.d_types.specs.{Needs.count, Needs.need, Constants.int_type, Constants.declared_type}
 use Rattle.d_types.specs.{Spelling.SpellsFormat}
 use Rattle.d_types.specs.Aggregations.{arguments_fit, function, find_from, first}
-use Rattle.d_types.specs.Rules.{IsInteger, IsOperation, IsChoice, IsRead, IsTargetOf, IsAssignment}
-use Rattle.d_types.specs.Rules.{IsStep, IsCall, IsPlaceOf}
+use Rattle.d_types.specs.Rules.{IsInteger, IsOperation, IsChoice, IsSlotOf, IsAssignment}
+use Rattle.d_types.specs.Rules.{IsStep, IsCall}
 
 -- ---- how a check ends
 
@@ -73,31 +73,41 @@ m >> next = m >>= λ x. next
 
 -- ---- variables
 
-abbrev pub IsTyped : Space → List ℕ → Rows → Type 0
-IsTyped space name rows =
-    (slot : ℕ) × (find space name rows ≡ Some slot) × (type_at rows slot ≢ None)
+-- a variable of this name, whose type is known
+abbrev pub IsVariable : Space → List ℕ → Rows → Slot → Type 0
+IsVariable space name rows x =
+    (x.space ≡ space) × (find space name rows ≡ Some x.slot) × (type_at rows x.slot ≡ Some x.holds)
 
--- a variable whose type is known, or a built-in
-abbrev pub IsNamed : Variable → Known → Type 0
-IsNamed (Variable.Plain line name) known = built_in name ≢ None
-IsNamed (Variable.Thread line name) known = IsTyped Space.Thread name known.rows
-IsNamed (Variable.Clause line name) known = IsTyped Space.Clause name known.rows
+-- its value at these keys
+abbrev pub read_own : Space → ℕ → List ℕ → Typeds → Checked Typed
+read_own space line name keys = do
+  x ← by_known (λ known. IsVariable space name known.rows) (TypeFault.Undeclared line)
+  needs (λ known. keys_at known.rows x.slot ≡ Some (kinds_of_typed keys)) (TypeFault.Keys line)
+  gives (Typed.Read x keys)
 
+-- a word alone is a built-in, which has no keys
 abbrev pub read : Variable → Typeds → Checked Typed
-read v keys = do
-  needs (IsNamed v) (TypeFault.Undeclared (line_of_variable v))
-  by_known (λ known. IsRead known.rows v keys) (TypeFault.Keys (line_of_variable v))
+read (Variable.Plain line name) keys = do
+  b ← by_rule (λ b. built_in name ≡ Some b) (TypeFault.Undeclared line)
+  needs (λ known. keys ≡ end) (TypeFault.Keys line)
+  gives (Typed.Fixed b)
+read (Variable.Thread line name) keys = read_own Space.Thread line name keys
+read (Variable.Clause line name) keys = read_own Space.Clause line name keys
 
 -- the slot of a variable that is assigned, which has this type from here on, if any
+abbrev pub target_own : Space → ℕ → List ℕ → Option DType → Typeds → Checked ℕ
+target_own space line name t keys =
+    by_change (λ known slot after. IsSlotOf space name known.rows t keys slot after.rows
+    × (after.aggs ≡ known.aggs)) (TypeFault.Keys line)
+
+-- a word alone is never assigned
 abbrev pub target : Variable → Option DType → Typeds → Checked ℕ
 target (Variable.Plain line name) t keys = do
   needs (λ known. built_in name ≢ None) (TypeFault.GlobalAssignment name line)
   needs (λ known. keys ≡ end) (TypeFault.Keys line)
   refused (TypeFault.ReadOnly line)
-target v t keys =
-    by_change (λ known slot after. IsTargetOf known.rows v t keys slot after.rows
-    × (after.aggs ≡ known.aggs))
-    (TypeFault.Keys (line_of_variable v))
+target (Variable.Thread line name) t keys = target_own Space.Thread line name t keys
+target (Variable.Clause line name) t keys = target_own Space.Clause line name t keys
 
 -- `++` and `--`
 abbrev pub stepped : ℕ → Step → Answer → Variable → Typeds → Checked Typed
@@ -202,18 +212,22 @@ called (Some Callee.Exit) line name args = do
 called (Some Callee.Printf) line name args = printed line args
 called callee line name args = evaluated (Tree.Call line name args)
 
--- a new aggregation has at most 8 keys, and a known one has keys of these kinds
-abbrev pub KeysFit : List ℕ → Typeds → Known → Type 0
-KeysFit name keys known =
-    ((find_from 0 name known.aggs ≡ None) × (count keys ≤ MOST_KEYS))
-    ⊎ ((place : ℕ) × (a : Agg) × (find_from 0 name known.aggs ≡ Some (place, a))
-    × (a.keys ≡ kinds_of_typed keys))
+-- one more aggregation, at the end
+abbrev pub appended : Agg → Checked ℕ
+appended a known answer =
+    answer ≡ Ok (length known.aggs, record known { aggs = known.aggs ++ a ∷ [] })
 
--- a known aggregation has this function
-abbrev pub FunctionFits : List ℕ → Option AggFn → Known → Type 0
-FunctionFits name g known =
-    (place : ℕ) (a : Agg) → find_from 0 name known.aggs ≡ Some (place, a)
-    → g ≡ Some a.function
+-- the place of an aggregation: it is known, and has these keys and this function again; or it is
+-- new
+abbrev pub placed : ℕ → List ℕ → Typeds → Option AggFn → Option (ℕ × Agg) → Checked ℕ
+placed line name keys g (Some (place, a)) = do
+  needs (λ known. a.keys ≡ kinds_of_typed keys) (TypeFault.Keys line)
+  needs (λ known. g ≡ Some a.function) (TypeFault.AggregationRedefined line)
+  gives place
+placed line name keys g None = do
+  needs (λ known. count keys ≤ MOST_KEYS) (TypeFault.Keys line)
+  h ← by_rule (λ h. g ≡ Some h) (TypeFault.LquantizeBounds line)
+  appended (record { name = name; keys = kinds_of_typed keys; function = h })
 
 abbrev pub aggregated : ℕ → List ℕ → Trees → List ℕ → Trees → Checked Action
 aggregated line name keys word args = do
@@ -221,12 +235,8 @@ aggregated line name keys word args = do
   g ← by_rule (λ g. aggregating_named word ≡ Some g) (TypeFault.Undeclared line)
   xs ← wholes args
   needs (λ known. arguments_fit g xs ≡ true) (TypeFault.Mismatch line)
-  needs (KeysFit name ks) (TypeFault.Keys line)
-  needs (FunctionFits name (function g args)) (TypeFault.AggregationRedefined line)
-  by_change (λ known a after. (place : ℕ)
-      × IsPlaceOf name ks (function g args) known.aggs place after.aggs
-      × (after.rows ≡ known.rows) × (a ≡ Aggregate place ks (first xs)))
-      (TypeFault.LquantizeBounds line)
+  place ← (λ known. placed line name ks (function g args) (find_from 0 name known.aggs) known)
+  gives (Aggregate place ks (first xs))
 
 abbrev pub statement : StmtTree → Checked Action
 statement (StmtTree.Expression (Tree.Call line name args)) =

@@ -1,15 +1,14 @@
 -- What a format takes.
 -- Source: Dynamic Tracing Guide, "Output Formatting".
-use Rattle.std.specs.Prelude.{◌&&◌, Bool, true, false, List, [], ◌∷◌}
-use Rattle.d_types.specs.Vocabulary.{Int, Text, DType, Letter, Piece}
+use Rattle.std.specs.Prelude.{◌&&◌, Bool, true, false, not, List, [], ◌∷◌}
+use Rattle.d_types.specs.Vocabulary.{DType, Letter, Piece}
+use Rattle.d_types.specs.Aggregations.{is_integer}
 use Rattle.d_types.specs.Typed.{Typeds, end, more, type_of}
 
 -- %s takes a text, the others an integer
 abbrev pub takes_type : Letter → DType → Bool
-takes_type Letter.Text Text = true
-takes_type Letter.Text (Int t) = false
-takes_type letter Text = false
-takes_type letter (Int t) = true
+takes_type Letter.Text t = not (is_integer t)
+takes_type letter t = is_integer t
 
 -- an argument for each conversion, of its kind
 abbrev pub fit : List Piece → Typeds → Bool

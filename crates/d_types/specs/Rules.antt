@@ -2,17 +2,15 @@
 -- Source: Dynamic Tracing Guide, "Type Promotion" and "Type Conversions".
 use Rattle.std.specs.Prelude.{◌≡◌, ℕ, nat_le, List, [], ◌∷◌, ◌++◌, length, ◌⊎◌, true, Option, Some}
 use Rattle.std.specs.Prelude.{None}
-use Rattle.d_parser.specs.declared.tree.Variable.{Variable}
 use Rattle.d_types.specs.Vocabulary.{Int, Text, Step, IntType, DType, promoted_of, common_of}
-use Rattle.d_types.specs.Vocabulary.{Answer, BuiltIn, Space, Operation, BinaryOperator}
-use Rattle.d_types.specs.Vocabulary.{AssignOperator, Callee, AggFn, MOST_KEYS}
-use Rattle.d_types.specs.Typed.{Typed, Typeds, end, more, type_of, Agg, Aggs}
+use Rattle.d_types.specs.Vocabulary.{Answer, Space, Operation, BinaryOperator}
+use Rattle.d_types.specs.Vocabulary.{AssignOperator, Callee}
+use Rattle.d_types.specs.Typed.{Typed, Typeds, end, more, type_of}
 use Rattle.d_types.specs.Variables.{Rows, find, type_at, keys_at, set_type, kinds_of_typed}
 use Rattle.d_types.specs.Needs.{count}
-use Rattle.d_types.specs.Words.{built_in, callee_named}
+use Rattle.d_types.specs.Words.{callee_named}
 use Rattle.d_types.specs.Operators.{conversion_node}
 use Rattle.d_types.specs.Targets.{most_keys, new_row, settle_slot}
-use Rattle.d_types.specs.Aggregations.{find_from}
 
 abbrev pub IsInteger : Typed → IntType → Type 0
 IsInteger x t = type_of x ≡ Int t
@@ -26,17 +24,15 @@ HasTextType x = type_of x ≡ Text
 abbrev pub IsOperation : BinaryOperator → Typed → Typed → Typed → Type 0
 IsOperation (BinaryOperator.Arithmetic op) x y z =
     (t : IntType) × (u : IntType) × IsInteger x t × IsInteger y u
-    × (z ≡ Typed.Operate (Operation.Arithmetic op (common_of t u))
-    (conversion_node t (common_of t u) x)
-    (conversion_node u (common_of t u) y))
+    × (let c = common_of t u in
+    z ≡ Typed.Operate (Operation.Arithmetic op c) (conversion_node t c x) (conversion_node u c y))
 IsOperation (BinaryOperator.Shift op) x y z =
     (t : IntType) × (u : IntType) × IsInteger x t × IsInteger y u
     × (z ≡ Typed.Operate (Operation.Shift op (promoted_of t))
     (conversion_node t (promoted_of t) x) y)
 IsOperation (BinaryOperator.Compare op) x y z =
-    ((t : IntType) × (u : IntType) × IsInteger x t × IsInteger y u
-    × (z ≡ Typed.Compare op (common_of t u) (conversion_node t (common_of t u) x)
-    (conversion_node u (common_of t u) y)))
+    ((t : IntType) × (u : IntType) × IsInteger x t × IsInteger y u × (let c = common_of t u in
+    z ≡ Typed.Compare op c (conversion_node t c x) (conversion_node u c y)))
     ⊎ (HasTextType x × HasTextType y × (z ≡ Typed.CompareText op x y))
 IsOperation (BinaryOperator.Logic op) x y z =
     (t : IntType) × (u : IntType) × IsInteger x t × IsInteger y u × (z ≡ Typed.Logic op x y)
@@ -45,25 +41,10 @@ IsOperation (BinaryOperator.Logic op) x y z =
 abbrev pub IsChoice : Typed → Typed → Typed → Typed → Type 0
 IsChoice x y w z =
     ((c : IntType) × (t : IntType) × (u : IntType) × IsInteger x c × IsInteger y t × IsInteger w u
-    × (z ≡ Typed.Choice (Int (common_of t u)) x (conversion_node t (common_of t u) y)
-    (conversion_node u (common_of t u) w)))
+    × (let d = common_of t u in
+    z ≡ Typed.Choice (Int d) x (conversion_node t d y) (conversion_node u d w)))
     ⊎ ((c : IntType) × IsInteger x c × HasTextType y × HasTextType w
     × (z ≡ Typed.Choice Text x y w))
-
--- ---- variables that are read
-
--- z is the variable's value at these keys: it is known, with its type and such keys
-abbrev pub IsLoad : Space → List ℕ → Rows → Typeds → Typed → Type 0
-IsLoad space name rows keys z =
-    (slot : ℕ) × (t : DType) × (find space name rows ≡ Some slot) × (type_at rows slot ≡ Some t)
-    × (keys_at rows slot ≡ Some (kinds_of_typed keys))
-    × (z ≡ Typed.Read (record { space = space; slot = slot; holds = t }) keys)
-
-abbrev pub IsRead : Rows → Variable → Typeds → Typed → Type 0
-IsRead rows (Variable.Plain line name) keys z =
-    (b : BuiltIn) × (built_in name ≡ Some b) × (keys ≡ end) × (z ≡ Typed.Fixed b)
-IsRead rows (Variable.Thread line name) keys z = IsLoad Space.Thread name rows keys z
-IsRead rows (Variable.Clause line name) keys z = IsLoad Space.Clause name rows keys z
 
 -- ---- variables that are assigned
 
@@ -75,14 +56,6 @@ IsSlotOf space name rows t keys slot after =
     × (after ≡ rows ++ new_row space name t (kinds_of_typed keys) ∷ []))
     ⊎ ((find space name rows ≡ Some slot) × (keys_at rows slot ≡ Some (kinds_of_typed keys))
     × (after ≡ settle_slot (type_at rows slot) slot t rows))
-
--- only variables of threads and of clauses are assigned
-abbrev pub IsTargetOf : Rows → Variable → Option DType → Typeds → ℕ → Rows → Type 0
-IsTargetOf rows (Variable.Plain line name) t keys slot after = ⊥
-IsTargetOf rows (Variable.Thread line name) t keys slot after =
-    IsSlotOf Space.Thread name rows t keys slot after
-IsTargetOf rows (Variable.Clause line name) t keys slot after =
-    IsSlotOf Space.Clause name rows t keys slot after
 
 -- y is x as a value of the type
 abbrev pub IsConverted : Typed → DType → Typed → Type 0
@@ -123,14 +96,3 @@ IsCall name args z =
     × (z ≡ Typed.Strlen x))
     ⊎ ((x : Typed) × (y : Typed) × (callee_named name ≡ Some Callee.Strjoin)
     × (args ≡ more x (more y end)) × HasTextType x × HasTextType y × (z ≡ Typed.Strjoin x y))
-
--- ---- aggregation statements
-
--- the place of an aggregation: new, or with the keys and the function that it had
-abbrev pub IsPlaceOf : List ℕ → Typeds → Option AggFn → Aggs → ℕ → Aggs → Type 0
-IsPlaceOf name ks g aggs place after =
-    ((h : AggFn) × (find_from 0 name aggs ≡ None) × (nat_le (count ks) MOST_KEYS ≡ true)
-    × (g ≡ Some h) × (place ≡ length aggs)
-    × (after ≡ aggs ++ record { name = name; keys = kinds_of_typed ks; function = h } ∷ []))
-    ⊎ ((known : Agg) × (find_from 0 name aggs ≡ Some (place, known))
-    × (known.keys ≡ kinds_of_typed ks) × (g ≡ Some known.function) × (after ≡ aggs))

@@ -1,16 +1,21 @@
 -- What the functions of the scanner return, by the tokens from left to right.
 use Rattle.std.specs.Prelude.{◌≡◌, ℕ, ◌⊎◌, List, ◌++◌, Result, Ok, Err, Bool, true, false}
+use Rattle.std.specs.Prelude.{if◌then◌else◌}
 use Rattle.d_lexer.specs.declared.{token.Token.Token, place.Place.Place}
 use Rattle.d_lexer.specs.declared.fault.LexFault.{LexFault}
 use Rattle.d_lexer.specs.declared.fault.LexFault.TheVariants as faults
-use Rattle.d_lexer.specs.{Tokens.TokensEnd, Tokens.Clean, Tokens.Bad, Lexing.settle}
-use Rattle.d_lexer.specs.Steps.Scan.{Scanned}
+use Rattle.d_lexer.specs.{Lexing.settle, Lexing.open_kind}
+use Rattle.d_lexer.specs.Steps.Scan.{Scanned, TokensEnd, Clean, Bad}
 use Rattle.d_lexer.specs.Vocabulary.{TokenKind, Mark}
 
 -- the token is a slash that was read as the closing one
 abbrev pub is_closing : TokenKind → Bool
 is_closing (TokenKind.Mark Mark.ClosingSlash) = true
 is_closing t = false
+
+-- a token, where an opening brace comes next or doesn't
+abbrev pub settle_token : Token → Bool → Token
+settle_token t brace = if brace then t else record t { kind = open_kind t.kind }
 
 -- the fault at which reading ends, unless memory was refused
 abbrev pub Stops : LexFault → TokensEnd → Type 0

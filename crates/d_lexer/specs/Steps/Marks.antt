@@ -1,8 +1,12 @@
 -- The mark of some bytes, by their number: a table for each.
 use Rattle.std.specs.Prelude.{ℕ, ◌&&◌, if◌then◌else◌, ◌==◌, List, [], ◌∷◌, Option, Some, None}
-use Rattle.d_lexer.specs.Bytes.{entry_of}
+use Rattle.std.specs.Map.{lookup}
 use Rattle.d_lexer.specs.Vocabulary.{Mark, Place, Head, Declaration, Predicate, Body}
 use Rattle.d_lexer.specs.declared.token.Mark.TheVariants as mark
+
+-- what a table holds for a byte
+abbrev pub entry_of : {X : Type 0} → List (ℕ × X) → ℕ → Option X
+entry_of entries b = lookup (λ c. b == c) entries
 
 -- + - * / % & | ^ ~ < > ! ? : = ( ) [ ] { } , ;
 abbrev pub singles : List (ℕ × Mark)

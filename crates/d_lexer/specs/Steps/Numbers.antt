@@ -1,8 +1,34 @@
 -- Numbers, digit by digit.
-use Rattle.std.specs.Prelude.{ℕ, ◌+◌, ◌*◌, ◌-◌, ◌^◌, nat_lt, ◌==◌, if◌then◌else◌}
+use Rattle.std.specs.Prelude.{ℕ, ◌+◌, ◌*◌, ◌-◌, ◌^◌, nat_lt, ◌==◌, Bool, ◌&&◌, ◌||◌, if◌then◌else◌}
 use Rattle.std.specs.Prelude.{List, [], ◌∷◌, Option, Some, None, option_and_then}
 use Rattle.d_lexer.specs.declared.token.Suffix.{Suffix, TheVariants.Absent}
-pub use Rattle.d_lexer.specs.Numbers.{digit_of, suffix_of, is_x}
+use Rattle.d_lexer.specs.declared.token.Suffix.TheVariants.{Unsigned, Long, UnsignedLong}
+use Rattle.std.specs.Char.{is_digit, digit_value}
+
+-- the value of a digit of the base
+abbrev pub digit_of : ℕ → ℕ → Option ℕ
+digit_of base d = if is_digit d base then Some (digit_value d) else None
+
+-- letters, in either case
+abbrev pub is_u : ℕ → Bool
+is_u b = b == 117 || b == 85
+
+abbrev pub is_l : ℕ → Bool
+is_l b = b == 108 || b == 76
+
+abbrev pub is_x : ℕ → Bool
+is_x b = b == 120 || b == 88
+
+-- the suffix that the letters spell
+unfoldable pub suffix_by_letters : List ℕ → Option Suffix
+suffix_by_letters [] = Some Absent
+suffix_by_letters (a ∷ []) =
+    if is_u a then Some Unsigned else (if is_l a then Some Long else None)
+suffix_by_letters (a ∷ b ∷ []) =
+    if is_u a && is_l b then Some UnsignedLong else (if is_l a && is_l b then Some Long else None)
+suffix_by_letters (a ∷ b ∷ c ∷ []) =
+    if is_u a && is_l b && is_l c then Some UnsignedLong else None
+suffix_by_letters (a ∷ b ∷ c ∷ d ∷ z) = None
 
 -- one digit more, below 2 ^ 64
 abbrev pub one_digit_more : ℕ → ℕ → ℕ → Option ℕ
@@ -16,7 +42,7 @@ with_suffix n (Some s) = Some (n, s)
 -- the digits of the base, and after them a suffix
 abbrev pub number_by : (go : ℕ → Option (ℕ × Suffix)) → ℕ → ℕ → List ℕ → Option ℕ
     → Option (ℕ × Suffix)
-number_by go base n bytes None = with_suffix n (suffix_of bytes)
+number_by go base n bytes None = with_suffix n (suffix_by_letters bytes)
 number_by go base n bytes (Some k) = option_and_then go (one_digit_more base n k)
 
 -- the number whose first digits are n

@@ -4,12 +4,12 @@ use Rattle.std.specs.Prelude.{if◌then◌else◌, Option, Some, None, Result, O
 use Rattle.std.specs.Prelude.{length, take, take_while}
 use Rattle.d_lexer.specs.Vocabulary.{is_ascii_digit, Mark, Suffix, Token, TokenKind, Place, Head}
 use Rattle.d_lexer.specs.Vocabulary.{Declaration, Predicate, Body, Position, Front, Flaw, Stop, Gap}
+use Rattle.d_lexer.specs.Vocabulary.{LexFault}
 use Rattle.d_lexer.specs.Vocabulary.{BadByte, Unclosed, Constant, Escape, OptionLine}
 use Rattle.d_lexer.specs.Bytes.{next_is, is_blank_byte, is_word_start, is_word_byte, is_run_byte}
-use Rattle.d_lexer.specs.Bytes.{is_inside, begins_comment, escape_of, is_declaring, line_feed}
-use Rattle.d_lexer.specs.Bytes.{quote, backslash, at_sign, star, slash, underscore, hash}
+use Rattle.std.specs.Str.{byte}
+use Rattle.d_lexer.specs.Bytes.{is_inside, begins_comment, escape_of, is_declaring}
 use Rattle.d_lexer.specs.Places.{after_byte, is_first, is_hash, place_after}
-use Rattle.d_lexer.specs.Tokens.{TokensEnd, Clean, Bad}
 use Rattle.d_lexer.specs.{Steps.Numbers.number_spelled, Steps.Marks.mark_by, Faults.on_line}
 use Rattle.d_lexer.specs.{Steps.OptionLine.is_option}
 use Rattle.d_lexer.specs.Steps.Outcomes.{Gives as GivesBy}
@@ -63,10 +63,10 @@ unfoldable pub text_from : Bool → List ℕ → Result (List ℕ × ℕ) Flaw
 text_from escaped [] = Err Unclosed
 text_from true (b ∷ z) = put_escape (escape_of b) (text_from false z)
 text_from false (b ∷ z) =
-    if b == quote then Ok ([], 1)
-    else (if b == line_feed then Err Unclosed
+    if b == byte "\"" then Ok ([], 1)
+    else (if b == byte "\n" then Err Unclosed
     else (if b == 0 then Err BadByte
-    else (if b == backslash then skip_one (text_from true z)
+    else (if b == byte "\\" then skip_one (text_from true z)
     else with_byte b (text_from false z))))
 
 -- one byte more
@@ -78,7 +78,7 @@ one_longer (Some n) = Some (suc n)
 unfoldable pub comment_from : List ℕ → Option ℕ
 comment_from [] = None
 comment_from (b ∷ z) =
-    if b == star && next_is slash z then Some 2 else one_longer (comment_from z)
+    if b == byte "*" && next_is (byte "/") z then Some 2 else one_longer (comment_from z)
 
 -- a mark with its length less one, or the other where there is none
 abbrev pub with_length : ℕ → Option Mark → Option (Mark × ℕ) → Option (Mark × ℕ)
@@ -146,7 +146,7 @@ run_front b z =
 
 -- @ alone
 abbrev pub bare_name : Result Front Flaw
-bare_name = Ok (Front.Token (TokenKind.AggregationName (underscore ∷ [])) 0)
+bare_name = Ok (Front.Token (TokenKind.AggregationName (byte "_" ∷ [])) 0)
 
 -- @ and a word
 abbrev pub whole_name : ℕ → List ℕ → Result Front Flaw
@@ -169,8 +169,8 @@ unfoldable pub inside_at : Place → ℕ → List ℕ → Result Front Flaw
 inside_at p b z =
     if is_word_start b then word_front b z
     else (if is_ascii_digit b then run_number b z
-    else (if b == at_sign then aggregation_front z
-    else (if b == quote then text_front (text_from false z)
+    else (if b == byte "@" then aggregation_front z
+    else (if b == byte "\"" then text_front (text_from false z)
     else mark_front (mark_at p b z))))
 
 -- a token of the head
@@ -187,7 +187,7 @@ token_at Body b z = inside_at Body b z
 -- an option line, from after its #
 abbrev pub option_front : List ℕ → Result Front Flaw
 option_front z =
-    if is_option (hash ∷ front_run is_inside z) then Ok (Gap (run_len is_inside z))
+    if is_option (byte "#" ∷ front_run is_inside z) then Ok (Gap (run_len is_inside z))
     else Err OptionLine
 
 -- what is at the front of the bytes
@@ -198,6 +198,11 @@ front_at p pos b z =
     else (if is_first pos b z then Ok (Gap (run_len is_inside z))
     else (if is_hash p pos b then option_front z
     else token_at p b z)))
+
+-- how the tokens end: with the bytes, or at a fault
+pub data TokensEnd : Type 0 where
+  Clean : TokensEnd
+  Bad : LexFault → TokensEnd
 
 -- the tokens, and how they end
 abbrev pub Scanned : Type 0

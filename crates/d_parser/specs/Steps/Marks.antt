@@ -1,13 +1,18 @@
 -- What marks do before and after an operand, and which one is at the front.
-use Rattle.std.specs.Prelude.{Bool, false, List, [], ◌∷◌}
+use Rattle.std.specs.Prelude.{ℕ, Bool, false, List, [], ◌∷◌}
 pub use Rattle.d_parser.specs.Symbols.{same_mark}
 use Rattle.d_parser.specs.Vocabulary.{Mark, Token, TokenKind, UnaryOperator, Step, Prefix, Follow}
+use Rattle.d_parser.specs.{Vocabulary.BinaryOperator, Marks.mark_and_level}
 use Rattle.d_parser.specs.declared.operators.BinaryOperator.TheVariants as binary
 use Rattle.d_parser.specs.declared.operators.AssignOperator.TheVariants as assign
 use Rattle.d_parser.specs.declared.operators.LogicOperator.TheVariants as logic
 use Rattle.d_values.specs.declared.operators.ArithmeticOperator.TheVariants as arithmetic
 use Rattle.d_values.specs.declared.operators.ShiftOperator.TheVariants as shift
 use Rattle.d_values.specs.declared.operators.ComparisonOperator.TheVariants as comparison
+
+-- how tightly an operator between two operands binds
+abbrev pub level_of : BinaryOperator → ℕ
+level_of op = (mark_and_level op).1
 
 -- what a mark before an operand does
 abbrev pub prefix_of : Mark → Prefix

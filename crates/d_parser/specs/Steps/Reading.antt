@@ -9,7 +9,7 @@ use Rattle.d_parser.specs.Tree.{Assign, Trees, end, more}
 use Rattle.d_parser.specs.Steps.Tree.{add}
 use Rattle.d_parser.specs.Words.{word_kind}
 use Rattle.d_parser.specs.Steps.Words.{begins_type, run, after_run, integer_type}
-use Rattle.d_parser.specs.Marks.{level_of}
+use Rattle.d_parser.specs.Steps.Marks.{level_of}
 use Rattle.d_parser.specs.Steps.Marks.{prefix_of, follow_at, is_at, same_mark, tail}
 
 infixl 10 ◌>>=◌
@@ -88,19 +88,19 @@ is_clause_local x = false
 abbrev pub followed : Mark → Tree → Reader Tree
 followed mark inner ts = after_mark mark ts >>= λ rest. Some (inner, rest)
 
--- What reads phrases of a level, what operators of a level or more join to a left part, and the
--- rest of a list.
+-- What reads expressions of a level, what operators of a level or more join to a left operand, and
+-- the rest of a list.
 pub record Readers : Type 0 where
-  pub phrase : ℕ → Reader Tree
-  pub climb : ℕ → Tree → Reader Tree
-  pub further : Trees → Reader Trees
+  pub expr : ℕ → Reader Tree
+  pub binary_tail : ℕ → Tree → Reader Tree
+  pub exprs_tail : Trees → Reader Trees
 
 -- Below, `down` reads what lies one level deeper.
 module _ (down : Readers) where
   -- expressions with commas between, and the mark that closes them
   unfoldable pub closed_list : Mark → Reader Trees
   closed_list close ts =
-      down.phrase ASSIGNMENT ts >>= λ first. down.further (more first.0 end) first.1 >>= λ all.
+      down.expr ASSIGNMENT ts >>= λ first. down.exprs_tail (more first.0 end) first.1 >>= λ all.
       after_mark close all.1 >>= λ rest. Some (all.0, rest)
 
   abbrev pub keys_by : Follow → Reader Trees
@@ -125,120 +125,124 @@ module _ (down : Readers) where
   unfoldable pub target : WordKind → List ℕ → ℕ → Reader (Variable × Trees)
   target k name line ts = variable k name line ts >>= λ x. with_keys x.0 x.1
 
-  abbrev pub follows_by : Follow → ℕ → Variable × Trees → Reader Tree
-  follows_by (Follow.Step step) k x ts = Some (After x.0 x.1 step, tail ts)
-  follows_by (Follow.Assign op) k x ts =
+  abbrev pub target_tail_by : Follow → ℕ → Variable × Trees → Reader Tree
+  target_tail_by (Follow.Step step) k x ts = Some (After x.0 x.1 step, tail ts)
+  target_tail_by (Follow.Assign op) k x ts =
       if nat_le k ASSIGNMENT
-      then (down.phrase ASSIGNMENT (tail ts) >>= λ value. Some (Assign op x.0 x.1 value.0, value.1))
+      then (down.expr ASSIGNMENT (tail ts) >>= λ value. Some (Assign op x.0 x.1 value.0, value.1))
       else Some (Read x.0 x.1, ts)
-  follows_by follow k x ts = Some (Read x.0 x.1, ts)
+  target_tail_by follow k x ts = Some (Read x.0 x.1, ts)
 
   -- what follows a target
-  unfoldable pub follows : ℕ → Variable × Trees → Reader Tree
-  follows k x ts = follows_by (follow_at ts) k x ts
+  unfoldable pub target_tail : ℕ → Variable × Trees → Reader Tree
+  target_tail k x ts = target_tail_by (follow_at ts) k x ts
 
   -- a call, or what a target begins
-  unfoldable pub part_at_name : ℕ → List ℕ → ℕ → Reader Tree
-  part_at_name k name line ts =
+  unfoldable pub post_at_name : ℕ → List ℕ → ℕ → Reader Tree
+  post_at_name k name line ts =
       if begins_call name ts
       then (arguments (tail ts) >>= λ all. Some (Call line name all.0, all.1))
-      else (target (word_kind name) name line ts >>= λ x. follows k x.0 x.1)
+      else (target (word_kind name) name line ts >>= λ x. target_tail k x.0 x.1)
 
   -- after the opening parenthesis of a cast
-  unfoldable pub part_at_cast : ℕ → Reader Tree
-  part_at_cast line ts =
-      cast_type ts >>= λ to. down.phrase UNARY to.1 >>= λ a. Some (Cast line to.0 a.0, a.1)
+  unfoldable pub unary_at_cast : ℕ → Reader Tree
+  unary_at_cast line ts =
+      cast_type ts >>= λ to. down.expr UNARY to.1 >>= λ a. Some (Cast line to.0 a.0, a.1)
 
   -- after an opening parenthesis
-  unfoldable pub part_in_parentheses : ℕ → Reader Tree
-  part_in_parentheses line ts =
+  unfoldable pub unary_in_parentheses : ℕ → Reader Tree
+  unary_in_parentheses line ts =
       if is_typed ts
-      then part_at_cast line ts
-      else (down.phrase ASSIGNMENT ts >>= λ inner. followed Mark.CloseParenthesis inner.0 inner.1)
+      then unary_at_cast line ts
+      else (down.expr ASSIGNMENT ts >>= λ inner. followed Mark.CloseParenthesis inner.0 inner.1)
 
-  abbrev pub part_at_step_by : ℕ → Step → TokenKind → ℕ → Reader Tree
-  part_at_step_by line step (TokenKind.Word name) word_line ts =
+  abbrev pub unary_at_step_by : ℕ → Step → TokenKind → ℕ → Reader Tree
+  unary_at_step_by line step (TokenKind.Word name) word_line ts =
       target (word_kind name) name word_line ts >>= λ x. Some (Before line step x.0.0 x.0.1, x.1)
-  part_at_step_by line step k word_line ts = None
+  unary_at_step_by line step k word_line ts = None
 
   -- the target after `++` or `--`
-  unfoldable pub part_at_step : ℕ → Step → Reader Tree
-  part_at_step line step [] = None
-  part_at_step line step (t ∷ ts) = part_at_step_by line step t.kind t.line ts
+  unfoldable pub unary_at_step : ℕ → Step → Reader Tree
+  unary_at_step line step [] = None
+  unary_at_step line step (t ∷ ts) = unary_at_step_by line step t.kind t.line ts
 
   abbrev pub prefixed_by : Prefix → ℕ → Reader Tree
   prefixed_by (Prefix.Unary op) line ts =
-      down.phrase UNARY ts >>= λ a. Some (Unary line op a.0, a.1)
-  prefixed_by (Prefix.Step step) line ts = part_at_step line step ts
+      down.expr UNARY ts >>= λ a. Some (Unary line op a.0, a.1)
+  prefixed_by (Prefix.Step step) line ts = unary_at_step line step ts
   prefixed_by Prefix.Other line ts = None
 
-  -- after a mark that begins a part
-  unfoldable pub part_at_mark : Mark → ℕ → Reader Tree
-  part_at_mark mark line ts =
-      if same_mark mark Mark.OpenParenthesis then part_in_parentheses line ts
+  -- after a mark that begins a unary expression
+  unfoldable pub unary_at_mark : Mark → ℕ → Reader Tree
+  unary_at_mark mark line ts =
+      if same_mark mark Mark.OpenParenthesis then unary_in_parentheses line ts
       else prefixed_by (prefix_of mark) line ts
 
-  abbrev pub part_by : ℕ → TokenKind → ℕ → Reader Tree
-  part_by k (TokenKind.Number value suffix) line ts =
+  abbrev pub unary_by : ℕ → TokenKind → ℕ → Reader Tree
+  unary_by k (TokenKind.Number value suffix) line ts =
       Some (Known line (Constant.Number value suffix), ts)
-  part_by k (TokenKind.TextConstant bytes) line ts = Some (Known line (Constant.Text bytes), ts)
-  part_by k (TokenKind.Word name) line ts = part_at_name k name line ts
-  part_by k (TokenKind.Mark mark) line ts = part_at_mark mark line ts
-  part_by k other line ts = None
+  unary_by k (TokenKind.TextConstant bytes) line ts = Some (Known line (Constant.Text bytes), ts)
+  unary_by k (TokenKind.Word name) line ts = post_at_name k name line ts
+  unary_by k (TokenKind.Mark mark) line ts = unary_at_mark mark line ts
+  unary_by k other line ts = None
 
-  -- a unary part, or where the level allows it an assignment
-  unfoldable pub part : ℕ → Reader Tree
-  part k [] = None
-  part k (t ∷ ts) = part_by k t.kind t.line ts
+  -- a unary expression, or where the level allows it an assignment
+  unfoldable pub unary : ℕ → Reader Tree
+  unary k [] = None
+  unary k (t ∷ ts) = unary_by k t.kind t.line ts
 
-  abbrev pub climb_by : Follow → ℕ → Tree → Reader Tree
-  climb_by (Follow.Infix op) k left ts =
+  abbrev pub binary_tail_by : Follow → ℕ → Tree → Reader Tree
+  binary_tail_by (Follow.Infix op) k left ts =
       if nat_le k (level_of op)
-      then (down.phrase (suc (level_of op)) (tail ts) >>= λ right.
-      down.climb k (Binary op left right.0) right.1)
+      then (down.expr (suc (level_of op)) (tail ts) >>= λ right.
+      down.binary_tail k (Binary op left right.0) right.1)
       else Some (left, ts)
-  climb_by follow k left ts = Some (left, ts)
+  binary_tail_by follow k left ts = Some (left, ts)
 
-  -- the left part, joined by the operators of level k or above to what follows it
-  unfoldable pub climb_on : ℕ → Tree → Reader Tree
-  climb_on k left ts = climb_by (follow_at ts) k left ts
+  -- the left operand, joined by the operators of level k or above to what follows it
+  unfoldable pub binary_tail_on : ℕ → Tree → Reader Tree
+  binary_tail_on k left ts = binary_tail_by (follow_at ts) k left ts
 
   -- the two expressions after the question mark
   unfoldable pub alternatives : Reader (Tree × Tree)
   alternatives ts =
-      down.phrase ASSIGNMENT ts >>= λ x. followed Mark.Colon x.0 x.1 >>= λ first.
-      down.phrase CONDITION first.1 >>= λ second. Some ((first.0, second.0), second.1)
+      down.expr ASSIGNMENT ts >>= λ x. followed Mark.Colon x.0 x.1 >>= λ first.
+      down.expr CONDITION first.1 >>= λ second. Some ((first.0, second.0), second.1)
 
-  abbrev pub choice_by : Follow → Tree → Reader Tree
-  choice_by Follow.Question test ts =
+  abbrev pub cond_tail_by : Follow → Tree → Reader Tree
+  cond_tail_by Follow.Question test ts =
       alternatives (tail ts) >>= λ x. Some (Choice test x.0.0 x.0.1, x.1)
-  choice_by follow test ts = Some (test, ts)
+  cond_tail_by follow test ts = Some (test, ts)
 
   -- a condition goes on with a question mark
-  unfoldable pub choice : ℕ → Tree → Reader Tree
-  choice k test ts =
-      if nat_le k CONDITION then choice_by (follow_at ts) test ts else Some (test, ts)
+  unfoldable pub cond_tail : ℕ → Tree → Reader Tree
+  cond_tail k test ts =
+      if nat_le k CONDITION then cond_tail_by (follow_at ts) test ts else Some (test, ts)
 
-  -- a first part, and what operators join to it
-  unfoldable pub operand : ℕ → Reader Tree
-  operand k ts = part k ts >>= λ first. down.climb (max k OR) first.0 first.1
+  -- a first operand, and what operators join to it
+  unfoldable pub binary : ℕ → Reader Tree
+  binary k ts = unary k ts >>= λ first. down.binary_tail (max k OR) first.0 first.1
 
-  -- a phrase of level k
-  unfoldable pub whole : ℕ → Reader Tree
-  whole k ts = operand k ts >>= λ joined. choice k joined.0 joined.1
+  -- an expression of level k
+  unfoldable pub expr_on : ℕ → Reader Tree
+  expr_on k ts = binary k ts >>= λ joined. cond_tail k joined.0 joined.1
 
   -- the expressions after a comma
-  unfoldable pub further_on : Trees → Reader Trees
-  further_on all ts =
+  unfoldable pub exprs_tail_on : Trees → Reader Trees
+  exprs_tail_on all ts =
       if is_at Mark.Comma ts
-      then (down.phrase ASSIGNMENT (tail ts) >>= λ next. down.further (add all next.0) next.1)
+      then (down.expr ASSIGNMENT (tail ts) >>= λ next. down.exprs_tail (add all next.0) next.1)
       else Some (all, ts)
 
 -- with at most n levels below
 abbrev pub readers : ℕ → Readers
-readers zero = record { phrase = λ k ts. None; climb = λ k left ts. None; further = λ all ts. None }
+readers zero = record {
+  expr = λ k ts. None;
+  binary_tail = λ k left ts. None;
+  exprs_tail = λ all ts. None;
+}
 readers (suc n) = record {
-  phrase = whole (readers n);
-  climb = climb_on (readers n);
-  further = further_on (readers n);
+  expr = expr_on (readers n);
+  binary_tail = binary_tail_on (readers n);
+  exprs_tail = exprs_tail_on (readers n);
 }

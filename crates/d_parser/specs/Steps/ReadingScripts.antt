@@ -36,7 +36,7 @@ aggregation n line name ts =
     Some (Aggregation line name keys.0 function.0 all.0, all.1)
 
 abbrev pub expression : ℕ → Reader StmtTree
-expression n ts = (readers n).phrase ASSIGNMENT ts >>= λ x. Some (Expression x.0, x.1)
+expression n ts = (readers n).expr ASSIGNMENT ts >>= λ x. Some (Expression x.0, x.1)
 
 abbrev pub stmt_by : ℕ → TokenKind → ℕ → List Token → Reader StmtTree
 stmt_by n (TokenKind.AggregationName name) line later ts = aggregation n line name later
@@ -51,21 +51,21 @@ abbrev pub ends_stmt : List Token → Bool
 ends_stmt ts = if is_at Mark.Semicolon ts then true else is_at Mark.CloseBrace ts
 
 -- these statements, and the one at the front if there is one
-unfoldable pub slot : ℕ → List StmtTree → Reader (List StmtTree)
-slot n all ts =
+unfoldable pub optional_stmt : ℕ → List StmtTree → Reader (List StmtTree)
+optional_stmt n all ts =
     if ends_stmt ts then Some (all, ts) else (stmt n ts >>= λ s. Some (all ++ s.0 ∷ [], s.1))
 
 -- the statements after semicolons, `turns` of them at most
-unfoldable pub further_stmts : ℕ → ℕ → List StmtTree → Reader (List StmtTree)
-further_stmts n zero all ts = None
-further_stmts n (suc turns) all ts =
+unfoldable pub stmts_tail : ℕ → ℕ → List StmtTree → Reader (List StmtTree)
+stmts_tail n zero all ts = None
+stmts_tail n (suc turns) all ts =
     if is_at Mark.CloseBrace ts
     then Some (all, tail ts)
-    else (after_mark Mark.Semicolon ts >>= λ rest. slot n all rest >>= λ x.
-    further_stmts n turns x.0 x.1)
+    else (after_mark Mark.Semicolon ts >>= λ rest. optional_stmt n all rest >>= λ x.
+    stmts_tail n turns x.0 x.1)
 
 unfoldable pub stmts : ℕ → Reader (List StmtTree)
-stmts n ts = slot n [] ts >>= λ x. further_stmts n n x.0 x.1
+stmts n ts = optional_stmt n [] ts >>= λ x. stmts_tail n n x.0 x.1
 
 -- ---- clauses
 
@@ -82,24 +82,24 @@ description [] = None
 description (t ∷ ts) = description_by t.kind ts
 
 -- the description after a comma, and then the next ones
-unfoldable pub descriptions_on : (List Description → Reader (List Description)) → List Description
-    → Reader (List Description)
-descriptions_on next all ts =
+unfoldable pub descriptions_tail_on : (List Description → Reader (List Description))
+    → List Description → Reader (List Description)
+descriptions_tail_on next all ts =
     if is_at Mark.Comma ts then (description (tail ts) >>= λ d. next (all ++ d.0 ∷ []) d.1)
     else Some (all, ts)
 
 -- the descriptions after commas, `turns` of them at most
-abbrev pub further_descriptions : ℕ → List Description → Reader (List Description)
-further_descriptions zero all ts = None
-further_descriptions (suc turns) all ts = descriptions_on (further_descriptions turns) all ts
+abbrev pub descriptions_tail : ℕ → List Description → Reader (List Description)
+descriptions_tail zero all ts = None
+descriptions_tail (suc turns) all ts = descriptions_tail_on (descriptions_tail turns) all ts
 
 unfoldable pub descriptions_reader : ℕ → Reader (List Description)
-descriptions_reader n ts = description ts >>= λ d. further_descriptions n (d.0 ∷ []) d.1
+descriptions_reader n ts = description ts >>= λ d. descriptions_tail n (d.0 ∷ []) d.1
 
 unfoldable pub predicate_reader : ℕ → Reader (Option Tree)
 predicate_reader n ts =
     if is_at Mark.Slash ts
-    then ((readers n).phrase ASSIGNMENT (tail ts) >>= λ x.
+    then ((readers n).expr ASSIGNMENT (tail ts) >>= λ x.
     after_mark Mark.ClosingSlash x.1 >>= λ rest. Some (Some x.0, rest))
     else Some (None, ts)
 
@@ -115,25 +115,25 @@ clause_reader n ts =
 -- ---- declarations
 
 -- the type that the words at the front spell
-unfoldable pub whole_type : Reader DeclaredType
-whole_type ts = with_rest (after_run ts) (type_of_words (run ts))
+unfoldable pub declared_type : Reader DeclaredType
+declared_type ts = with_rest (after_run ts) (type_of_words (run ts))
 
 -- the type after a comma, and then the next ones
-unfoldable pub types_on : (List DeclaredType → Reader (List DeclaredType)) → List DeclaredType
+unfoldable pub types_tail_on : (List DeclaredType → Reader (List DeclaredType)) → List DeclaredType
     → Reader (List DeclaredType)
-types_on next all ts =
+types_tail_on next all ts =
     if is_at Mark.Comma ts
-    then (whole_type (tail ts) >>= λ t. next (all ++ t.0 ∷ []) t.1)
+    then (declared_type (tail ts) >>= λ t. next (all ++ t.0 ∷ []) t.1)
     else (after_mark Mark.CloseBracket ts >>= λ rest. Some (all, rest))
 
 -- the types after commas, `turns` of them at most
-abbrev pub further_types : ℕ → List DeclaredType → Reader (List DeclaredType)
-further_types zero all ts = None
-further_types (suc turns) all ts = types_on (further_types turns) all ts
+abbrev pub types_tail : ℕ → List DeclaredType → Reader (List DeclaredType)
+types_tail zero all ts = None
+types_tail (suc turns) all ts = types_tail_on (types_tail turns) all ts
 
 unfoldable pub key_types : ℕ → Reader (List DeclaredType)
 key_types n ts =
-    if is_at Mark.OpenBracket ts then (whole_type (tail ts) >>= λ t. further_types n (t.0 ∷ []) t.1)
+    if is_at Mark.OpenBracket ts then (declared_type (tail ts) >>= λ t. types_tail n (t.0 ∷ []) t.1)
     else Some ([], ts)
 
 -- all words but the last, and the last

@@ -1,8 +1,12 @@
 -- Words and types as they are read: by the first word and the others.
 use Rattle.std.specs.Prelude.{ℕ, Bool, true, false, if◌then◌else◌, List, [], ◌∷◌, drop, Option}
 use Rattle.std.specs.Prelude.{Some, None, option_map}
+use Rattle.std.specs.{Map.lookup, Option.unwrap_or, Str.bytes_eq}
 use Rattle.d_parser.specs.Vocabulary.{Token, TokenKind, WordKind, IntegerType, DeclaredType}
 use Rattle.d_parser.specs.Words.{reserved_words, word_kind_of, widths_of, type_of_words}
+
+abbrev pub kind_among : List (List ℕ × WordKind) → List ℕ → WordKind
+kind_among entries word = unwrap_or (lookup (bytes_eq word) entries) WordKind.Plain
 
 abbrev pub integer_words : List (List ℕ × WordKind)
 integer_words = drop 3 reserved_words

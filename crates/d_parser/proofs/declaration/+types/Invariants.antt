@@ -1,8 +1,8 @@
 use Rattle.std.proofs.Common.{◌+◌, ◌*◌}
 use Rattle.d_parser.proofs.declaration.+types.Given as goal
 
-abbrev pub decreases-further_types : goal.decreases-further_types
-decreases-further_types l = 2 * l.turns
+abbrev pub decreases-types_tail : goal.decreases-types_tail
+decreases-types_tail l = 2 * l.turns
 
-abbrev pub decreases-types_on : goal.decreases-types_on
-decreases-types_on l = 2 * l.turns + 1
+abbrev pub decreases-types_tail_on : goal.decreases-types_tail_on
+decreases-types_tail_on l = 2 * l.turns + 1

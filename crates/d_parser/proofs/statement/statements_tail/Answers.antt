@@ -1,7 +1,7 @@
 use Rattle.std.proofs.Common.{sym, ◌∙◌}
 use Rattle.d_parser.specs.Tree.{stmts_of}
 use Rattle.d_parser.proofs.Steps.{stmts_goes}
-use Rattle.d_parser.proofs.statement.further.Goals as goal
+use Rattle.d_parser.proofs.statement.statements_tail.Goals as goal
 
 pub loop-preserved : goal.loop-preserved
 loop-preserved c =
