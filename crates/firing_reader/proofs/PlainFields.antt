@@ -1,18 +1,16 @@
 -- What the digits at the front of bytes write.
 use Rattle.std.proofs.Common.{zero, suc, get_or, take, ◌≡◌, ◌<◌, ◌≤◌, ◌+◌, ◌^◌, ℕ, ℤ, pos, neg_ℤ}
-use Rattle.std.proofs.Common.{true, List, [], ◌∷◌, length, Option, Some, None, cond, leb, ltb, map}
+use Rattle.std.proofs.Common.{◌-◌, List, [], ◌∷◌, length, Option, None, Some}
 use Rattle.std.proofs.Common.{refl, sym, ap, ◌∙◌, arith, All, Bor}
 use Rattle.std.specs.Prelude.{IfSome}
 use Rattle.std.specs.Int.{IsInRange}
 use Rattle.std.specs.Str.Parse.{digits_value, AllDigits}
 use Rattle.std.proofs.lemmas.Str.Parse.{digit_at, digits_value_short}
 use Rattle.std.proofs.lemmas.Str.{digit_value_digit}
-use Rattle.std.proofs.lemmas.Bool.{le-leb, lt-ltb}
 use Rattle.std.proofs.lemmas.List.Elements.{All-cons, All-nil, All-head, All-tail}
-use Rattle.firing_reader.proofs.Numerals.{all_read, digits}
+use Rattle.firing_reader.proofs.Numerals.{all_read}
 use Rattle.firing_reader.proofs.PlainRows.{is_not}
-use Rattle.firing_reader.specs.Column.{is_decimal, signed_of}
-use Rattle.firing_reader.specs.Plain.{whole_of}
+use Rattle.firing_reader.specs.Column.{number_from, signed_of}
 use Rattle.firing_reader.specs.Steps.Plain.{BeginsWith, IsWordByte, JoinsField}
 
 pub digit_joins : (b : ℕ) → IsInRange 48 57 b → JoinsField b
@@ -22,20 +20,14 @@ pub digits_join : (xs : List ℕ) → AllDigits 10 xs → All JoinsField xs
 digits_join [] all = All-nil JoinsField
 digits_join (c ∷ cs) all = All-cons JoinsField c cs (digit_joins c (digit_at (c ∷ cs) 0 all (omega arith))) (digits_join cs all.1)
 
-pub whole_read : (xs : List ℕ) (n least most : ℕ) → 0 < length xs → n < 2 ^ 64 → AllDigits 10 xs → n ≡ digits_value 10 xs → least ≤ n → n ≤ most → whole_of least most xs ≡ Some n
-whole_read xs n least most some fits all value low high = rw (← all_read xs n some fits all value, le-leb least n low, le-leb n most high) refl
+pub negative_read : (xs : List ℕ) (n : ℕ) → 0 < length xs → AllDigits 10 xs → n ≡ digits_value 10 xs → n ≤ 2 ^ 63 → signed_of (45 ∷ xs) ≡ Some (neg_ℤ (pos n))
+negative_read xs n some all value fits = rw (all_read xs n 0 (2 ^ 63) some all value (omega arith) fits) refl
 
-decimal_digits : (xs : List ℕ) → 0 < length xs → AllDigits 10 xs → is_decimal xs ≡ true
-decimal_digits xs some all = rw (digits.from xs all, lt-ltb 0 (length xs) some) refl
-
-pub negative_read : (xs : List ℕ) (n : ℕ) → 0 < length xs → AllDigits 10 xs → n ≡ digits_value 10 xs → signed_of (45 ∷ xs) ≡ cond (leb n (2 ^ 63)) (Some (neg_ℤ (pos n))) None
-negative_read xs n some all value = rw (decimal_digits xs some all, value) refl
-
-pub positive_read : (xs : List ℕ) (n : ℕ) → AllDigits 10 xs → n ≡ digits_value 10 xs → signed_of xs ≡ cond (ltb n (2 ^ 63)) (Some (pos n)) None
-positive_read [] n all value = rw value refl
-positive_read (b ∷ rest) n all value =
+pub positive_read : (xs : List ℕ) (n : ℕ) → AllDigits 10 xs → n ≡ digits_value 10 xs → n ≤ 2 ^ 63 - 1 → signed_of xs ≡ Some (pos n)
+positive_read [] n all value fits = rw value refl
+positive_read (b ∷ rest) n all value fits =
     let d = digit_at (b ∷ rest) 0 all (omega arith) in
-    rw (is_not b 45 (λ e. absurd (omega (arith, d.0, d.1, e))), decimal_digits (b ∷ rest) (omega arith) all, value) refl
+    rw (is_not b 45 (λ e. absurd (omega (arith, d.0, d.1, e))), all_read (b ∷ rest) n 0 (2 ^ 63 - 1) (omega arith) all value (omega arith) fits) refl
 
 -- digits that 64 bits hold
 pub digits_fit : (xs : List ℕ) → AllDigits 10 xs → length xs ≤ 19 → digits_value 10 xs < 10 ^ 19
@@ -56,10 +48,10 @@ one_value d lt =
     omega (arith, is)
 
 pub one_signed : (d : ℕ) → d < 10 → signed_of ((48 + d) ∷ []) ≡ Some (pos d)
-one_signed d lt = positive_read ((48 + d) ∷ []) d (one_digits d lt) (one_value d lt) ∙ rw (lt-ltb d (2 ^ 63) (omega arith)) refl
+one_signed d lt = positive_read ((48 + d) ∷ []) d (one_digits d lt) (one_value d lt) (omega arith)
 
-pub one_whole : (d most : ℕ) → d < 10 → d ≤ most → whole_of 0 most ((48 + d) ∷ []) ≡ Some d
-one_whole d most lt le = whole_read ((48 + d) ∷ []) d 0 most (omega arith) (omega arith) (one_digits d lt) (one_value d lt) (omega arith) le
+pub one_whole : (d most : ℕ) → d < 10 → d ≤ most → number_from 0 most ((48 + d) ∷ []) ≡ Some d
+one_whole d most lt le = all_read ((48 + d) ∷ []) d 0 most (omega arith) (one_digits d lt) (one_value d lt) (omega arith) le
 
 minus_joins : JoinsField 45
 minus_joins = (λ e. absurd (omega (arith, e)), λ e. absurd (omega (arith, e)), λ e. absurd (omega (arith, e)), λ e. absurd (omega (arith, e)))
@@ -74,11 +66,6 @@ minus_more bytes rest is (Some p) (field, fronts, read) = (45 ∷ field, record 
 -- an argument that was read, seen as the number that its word stands for
 pub read_fits : (o : Option ℤ) (a b : ℤ) → o ≡ Some a → b ≡ a → o ≡ Some b
 read_fits o a b read same = read ∙ ap (λ (z : ℤ). Some z) (sym same)
-
--- no arguments were read
-pub none_read : (args : List ℤ) → [] ≡ map (λ (a : ℤ). Some a) args → args ≡ []
-none_read [] e = refl
-none_read (a ∷ more) e = absurd cc
 
 word_joins : (b : ℕ) → IsWordByte b → JoinsField b
 word_joins b h = (λ e. absurd (omega (arith, h.0, e)), λ e. absurd (omega (arith, h.0, e)), λ e. absurd (omega (arith, h.0, e)), λ e. absurd (omega (arith, h.0, e)))

@@ -1,23 +1,22 @@
 -- The header, as it is mostly written.
 use Rattle.std.proofs.Common.{◌≡◌, ℕ, List, [], ◌∷◌, ◌++◌, Some, refl, sym, ap, ◌∙◌, inl, inr}
 use Rattle.std.proofs.lemmas.List.{append-nil}
-use Rattle.std.specs.Prelude.{codes}
+use Rattle.std.specs.Prelude.{map}
 use Rattle.csv.specs.Machine.{next_record}
 use Rattle.csv.specs.Reading.{default_config, strip_bom}
 use Rattle.csv.specs.declared.parser.State.TheVariants as st
-use Rattle.csv.specs.Records.{field_at}
 use Rattle.firings.specs.declared.firing.Firing.{Firing}
 use Rattle.firing_reader.specs.Left.{left_in}
 use Rattle.firing_reader.specs.Plain.{BeginsAtEnd, IsEnd, rows_in, state_after}
 use Rattle.firing_reader.specs.Steps.Plain.{header_line}
-use Rattle.firing_reader.specs.Trace.{rows_of, trace_in, trace_of}
+use Rattle.firing_reader.specs.Column.{columns}
+use Rattle.firing_reader.specs.Trace.{name_of, rows_of, trace_in, trace_of}
 use Rattle.firing_reader.proofs.Left.{left_more}
 use Rattle.firing_reader.proofs.PlainRows.{after_row}
 use Rattle.firing_reader.proofs.Rows.{rows_first}
 
 abbrev names : List (List ℕ)
-names = codes "number" ∷ codes "cpu" ∷ codes "thread" ∷ codes "pid" ∷ codes "execname" ∷ codes "time" ∷ codes "provider" ∷ codes "module" ∷ codes "function" ∷ codes "name"
-    ∷ codes "arg0" ∷ codes "arg1" ∷ codes "arg2" ∷ codes "arg3" ∷ codes "arg4" ∷ codes "arg5" ∷ codes "arg6" ∷ codes "arg7" ∷ codes "arg8" ∷ codes "arg9" ∷ []
+names = map name_of columns
 
 header_read : (end : ℕ) (after : List ℕ) → IsEnd end → next_record default_config st.StartRecord [] [] (header_line ++ end ∷ after) ≡ Some (names, state_after end, after)
 unfolding next_record
@@ -29,7 +28,7 @@ unfolding strip_bom
 no_mark rest = refl
 
 named : (rows : List (List (List ℕ))) → trace_in (names ∷ rows) ≡ rows_of 1 0 rows
-unfolding trace_in field_at
+unfolding trace_in
 named rows = refl
 
 pub after_header : (bytes : List ℕ) (end : ℕ) (after : List ℕ) → IsEnd end → bytes ≡ header_line ++ end ∷ after → trace_of bytes ≡ rows_in [] (end ∷ after)

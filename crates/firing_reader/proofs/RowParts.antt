@@ -8,7 +8,8 @@ use Rattle.firings.specs.declared.unit.Owner.{Owner}
 use Rattle.firings.specs.declared.unit.Probe.{Probe}
 use Rattle.firing_reader.specs.Plain.{Passes, ReadsOwner, ReadsProbe}
 use Rattle.firing_reader.specs.Steps.Plain.{BeginsRow, BeginsWith, JoinsField, ReadsArguments}
-use Rattle.firing_reader.specs.Plain.{IsEnd, ReadsRow, int_of, whole_of}
+use Rattle.firing_reader.specs.Plain.{IsEnd, ReadsRow}
+use Rattle.firing_reader.specs.Column.{Whole, number_from, value_of}
 use Rattle.firings.specs.Stored.{Extends, IsGivenIn, IsRowIn, firing_in, given_in, no_owner}
 use Rattle.firings.specs.Stored.{no_probe}
 use Rattle.firings.specs.Arguments.{ten}
@@ -52,7 +53,7 @@ probe_there ps p q b r there h =
 
 -- ends of rows, and then a number
 pub begins_row : (bytes line rest : List ℕ) (number : ℕ) → (ends : List ℕ) × (bytes ≡ ends ++ line) × All IsEnd ends → (first : ℕ) × (more : List ℕ) × (line ≡ first ∷ more) × JoinsField first
-    → (field : List ℕ) × BeginsWith line field (44 ∷ rest) × (whole_of 1 (2 ^ 62) field ≡ Some number) → BeginsRow bytes number rest
+    → (field : List ℕ) × BeginsWith line field (44 ∷ rest) × (number_from 1 (2 ^ 62) field ≡ Some number) → BeginsRow bytes number rest
 begins_row bytes line rest number (ends, is, are_ends) (first, more, starts, joins) (field, fronts, is_number) = record {
   ends = ends;
   first = first;
@@ -68,9 +69,9 @@ begins_row bytes line rest number (ends, is, are_ends) (first, more, starts, joi
 -- the parts of a row, one after the other
 pub row_parts : (bytes b1 b2 b3 b4 b5 rest : List ℕ) (os : List Owner) (ps : List Probe) (args : List ℤ) (r : Row) (o : Owner) (p : Probe)
     → BeginsRow bytes r.number b1
-    → (field : List ℕ) × BeginsWith b1 field (44 ∷ b2) × (int_of 0 field ≡ Some r.cpu)
+    → (field : List ℕ) × BeginsWith b1 field (44 ∷ b2) × (value_of (Whole 0 0x7FFF_FFFF) field ≡ Some r.cpu)
     → slice_get os r.owner ≡ Some o → ReadsOwner b2 b3 o
-    → (field : List ℕ) × BeginsWith b3 field (44 ∷ b4) × (whole_of 0 0xFFFF_FFFF_FFFF_FFFF field ≡ Some r.time)
+    → (field : List ℕ) × BeginsWith b3 field (44 ∷ b4) × (number_from 0 0xFFFF_FFFF_FFFF_FFFF field ≡ Some r.time)
     → slice_get ps r.probe ≡ Some p → ReadsProbe b4 b5 p
     → ReadsArguments b5 rest (ten (given_in args r.given)) → ReadsRow bytes rest (firing_in os ps args r)
 row_parts bytes b1 b2 b3 b4 b5 rest os ps args r o p begins (x2, f2, n2) at_o reads_o (x6, f6, n6) at_p reads_p a =

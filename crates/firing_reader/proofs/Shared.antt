@@ -13,7 +13,8 @@ use Rattle.firings.specs.declared.unit.Owner.{Owner}
 use Rattle.firings.specs.declared.unit.Probe.{Probe}
 use Rattle.firings.specs.declared.units.Known.{Known}
 use Rattle.firings.specs.Texts.{text_of}
-use Rattle.firing_reader.specs.Plain.{ReadsOwner, ReadsProbe, int_of}
+use Rattle.firing_reader.specs.Plain.{ReadsOwner, ReadsProbe}
+use Rattle.firing_reader.specs.Column.{Whole, value_of}
 use Rattle.firing_reader.specs.Steps.Plain.{BeginsWith}
 use Rattle.firings.specs.Stored.{ArePlaces, Extends}
 use Rattle.firing_reader.specs.UnitTable.{IsReadIn}
@@ -124,8 +125,8 @@ owner_text b0 b1 b2 rest x3 x4 name from count is0 is1 is2 place many own =
     part_next b0 x3 b1 name 44 (length x4 + suc 0) from count is0 (omega (arith, size0, both0, size1, both1, place)) next
 
 -- the fields of an owner, one after another
-pub owner_parsed : (key b1 b2 b3 : List ℕ) (e : OwnerEntry) (name : List ℕ) → (field : List ℕ) × BeginsWith key field (44 ∷ b1) × (int_of 1 field ≡ Some e.thread)
-    → (field : List ℕ) × BeginsWith b1 field (44 ∷ b2) × (int_of 0 field ≡ Some e.pid) → (field : List ℕ) × BeginsWith b2 field (44 ∷ b3) × (text_of field ≡ Some name)
+pub owner_parsed : (key b1 b2 b3 : List ℕ) (e : OwnerEntry) (name : List ℕ) → (field : List ℕ) × BeginsWith key field (44 ∷ b1) × (value_of (Whole 1 0x7FFF_FFFF) field ≡ Some e.thread)
+    → (field : List ℕ) × BeginsWith b1 field (44 ∷ b2) × (value_of (Whole 0 0x7FFF_FFFF) field ≡ Some e.pid) → (field : List ℕ) × BeginsWith b2 field (44 ∷ b3) × (text_of field ≡ Some name)
     → e.from ≡ length key - length b2 → e.count ≡ length name → b3 ≡ [] → IsTextIn key e.from e.count × ReadsOwner key [] (owner_in (key, e))
 owner_parsed key b1 b2 b3 e name (x3, f3, thread) (x4, f4, pid) (x5, f5, execname) place many none =
     let (same, own) = own_field x5 name execname in

@@ -2,7 +2,7 @@
 -- a line in them.
 -- Source: RFC 4180, with the reading of the crate `csv`.
 use Rattle.std.specs.Prelude.{◌≡◌, ◌⊎◌, false, ◌<◌, ◌+◌, ◌≤◌, ℕ, List, [], ◌∷◌, ◌++◌, length}
-use Rattle.std.specs.Prelude.{Option, Some, codes, option_and_then, option_map, Result, Ok, pos, ℤ}
+use Rattle.std.specs.Prelude.{Some, codes, Result, Ok}
 use Rattle.csv.specs.declared.parser.State.{State}
 use Rattle.csv.specs.Machine.{after_end}
 use Rattle.firings.specs.declared.unit.Owner.{Owner}
@@ -11,11 +11,11 @@ use Rattle.firing_reader.specs.Vocabulary.{bytes_eq, next_record, default_config
 use Rattle.firings.specs.declared.firing.Firing.{Firing}
 use Rattle.firings.specs.declared.trace.TheConstants.{MOST_ROWS}
 use Rattle.firing_reader.specs.{Left.left_in}
-use Rattle.firing_reader.specs.Column.{decimal_of}
+use Rattle.firing_reader.specs.Column.{Whole, value_of}
 use Rattle.firings.specs.Texts.{text_of}
 use Rattle.firings.specs.Firings.{last_number}
 use Rattle.firing_reader.specs.Trace.{next_of, rows_of}
-use Rattle.firing_reader.specs.Row.{◌>>=◌, within}
+use Rattle.firing_reader.specs.Row.{◌>>=◌}
 
 -- csv takes these fields off the bytes, whatever comes after them, and goes on where a field starts
 abbrev pub Passes : List ℕ → List (List ℕ) → List ℕ → Type 0
@@ -23,22 +23,14 @@ Passes bytes fields rest = (before : List (List ℕ)) (tail : List ℕ) →
     next_record default_config State.StartField before [] (bytes ++ tail)
     ≡ next_record default_config State.StartField (before ++ fields) [] (rest ++ tail)
 
--- the number of a field, from least to most
-abbrev pub whole_of : ℕ → ℕ → List ℕ → Option ℕ
-whole_of least most bytes = option_and_then (within least most) (decimal_of bytes)
-
--- the number of a field, from least to the greatest of 31 bits
-abbrev pub int_of : ℕ → List ℕ → Option ℤ
-int_of least bytes = option_map pos (whole_of least 0x7FFF_FFFF bytes)
-
 -- the columns 3 to 5: who fired, and the fields that write it
 pub record ReadsOwner (bytes rest : List ℕ) (o : Owner) : Type 0 where
   pub x3 : List ℕ
   pub x4 : List ℕ
   pub x5 : List ℕ
   pub passes : Passes bytes (x3 ∷ x4 ∷ x5 ∷ []) rest
-  pub is_thread : int_of 1 x3 ≡ Some o.thread
-  pub is_pid : int_of 0 x4 ≡ Some o.pid
+  pub is_thread : value_of (Whole 1 0x7FFF_FFFF) x3 ≡ Some o.thread
+  pub is_pid : value_of (Whole 0 0x7FFF_FFFF) x4 ≡ Some o.pid
   pub is_execname : text_of x5 ≡ Some o.execname
 
 -- the columns 7 to 10: a probe that isn't reserved, and the fields that write it

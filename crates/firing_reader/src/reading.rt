@@ -2,41 +2,22 @@
 
 ghost use Rattle.std.specs.Prelude.{◌≤◌, ◌≡◌, ◌≢◌, ◌⊎◌, [], Ok, Err, IfOk, IfErr};
 ghost use Rattle.std.specs.Prelude.{OnOk, MatchBool, length};
-ghost use Rattle.csv.specs.{Records.fields_of};
 ghost use Rattle.csv.specs.Reading.{records as records_of, default_config, strip_bom};
 ghost use Rattle.firing_reader.specs.{Vocabulary.Memory};
 ghost use Rattle.firing_reader.specs.Gives.{Gives, GivesBy};
 ghost use Rattle.firing_reader.specs.Plain.{BeginsAtEnd, rows_after, rows_in};
-ghost use Rattle.firing_reader.specs.Trace.{next_of, trace_in, trace_of};
+ghost use Rattle.firing_reader.specs.Trace.{trace_in, trace_of};
 
 use crate::builder::FiringsBuilder;
 use crate::fault::TraceFault;
 use crate::header::{after_header, is_header};
 use crate::plain::read_plain;
 use crate::records::Records;
-use crate::row::read_row;
+use crate::row::read_next;
 use csv::ByteRecord;
-use firings::{Firing, MOST_ROWS, Trace};
+use firings::{MOST_ROWS, Trace};
 use keyed_hash::HashKey;
 use std::alloc::Global;
-
-// The firing of a row that follows another.
-#[tactic(auto, unfolding(crate::specs::Trace::next_of))]
-fn read_next<'a>(
-    fields: &'a ByteRecord,
-    args: &'a mut [i64; 10],
-    row: u32,
-    last: u64,
-) -> Result<Firing<'a>, TraceFault>
-    requires { row ≤ MOST_ROWS }
-    ensures { Gives result (next_of row last (fields_of fields.now)) }
-{
-    let firing = read_row(fields, args, row)?;
-    if firing.number <= last {
-        return Err(TraceFault::Order { row });
-    }
-    Ok(firing)
-}
 
 // Reads the rows that are left, after firings that were read before.
 fn read_rows(

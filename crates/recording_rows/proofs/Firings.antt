@@ -1,5 +1,5 @@
 -- The firing that a row is read as.
-use Rattle.std.proofs.Common.{◌≡◌, ◌<◌, ◌≤◌, ◌^◌, ℕ, suc, ℤ, pos, negsuc, neg_ℤ, true, List, [], ◌∷◌, length, Option, Some, None, refl, sym, ap, subst, ◌∙◌, arith, map, All}
+use Rattle.std.proofs.Common.{◌≡◌, ◌<◌, ◌≤◌, ◌^◌, ◌-◌, ℕ, suc, ℤ, pos, negsuc, neg_ℤ, true, List, [], ◌∷◌, length, Option, Some, None, refl, sym, ap, subst, ◌∙◌, arith, map, All}
 use Rattle.std.specs.Prelude.{codes, unwrap_or, FitsSigned, option_map}
 use Rattle.std.specs.Int.{w64}
 use Rattle.std.specs.List.{list_all}
@@ -13,7 +13,7 @@ use Rattle.std.proofs.lemmas.List.{length-map}
 use Rattle.std.proofs.lemmas.List.Elements.{All-head, All-tail, All-map}
 use Rattle.std.proofs.lemmas.Str.Parse.{IsNumeralModel, digit_at, numerals_by_value, tells_all_ascii_digits}
 use Rattle.csv.specs.Records.{field_at}
-use Rattle.firing_reader.specs.Column.{decimal_of, field, is_decimal, signed_of}
+use Rattle.firing_reader.specs.Column.{field, is_decimal, number_from, signed_of}
 use Rattle.firings.specs.Firings.{IsFiring}
 use Rattle.firings.specs.declared.firing.Firing.{Firing}
 use Rattle.firing_reader.specs.Written.{WritesFiring}
@@ -31,19 +31,22 @@ is_numeral : (xs : List ℕ) → 0 < length xs → AllDigits 10 xs → is_decima
 is_numeral xs some all = rw (digits.from xs all, lt-ltb 0 (length xs) some) refl
 
 -- a number's digits are read as it
-decimal_read : (n : ℕ) → n < 2 ^ 64 → decimal_of (decimal n) ≡ Some n
+number_read : (xs : List ℕ) (n most : ℕ) → 0 < length xs → AllDigits 10 xs → digits_value 10 xs ≡ n → n ≤ most → number_from 0 most xs ≡ Some n
+number_read xs n most some all value fits = rw (is_numeral xs some all, value, le-leb 0 n (omega arith), le-leb n most fits) refl
+
+decimal_read : (n : ℕ) → n < 2 ^ 64 → number_from 0 (2 ^ 64 - 1) (decimal n) ≡ Some n
 decimal_read n fits =
     let d = decimal_is_IsNumeral n fits in
-    rw (is_numeral (decimal n) d.0.0 d.0.1, d.1, lt-ltb n (2 ^ 64) fits) refl
+    number_read (decimal n) n (2 ^ 64 - 1) d.0.0 d.0.1 d.1 (omega arith)
 
 positive_read : (xs : List ℕ) (n : ℕ) → 0 < length xs → AllDigits 10 xs → digits_value 10 xs ≡ n → n < 2 ^ 63 → signed_of xs ≡ Some (pos n)
 positive_read [] n some all value fits = absurd (omega (arith, some))
 positive_read (b ∷ rest) n some all value fits =
     let d = digit_at (b ∷ rest) 0 all (omega arith) in
-    rw (ne_eqb b 45 (λ e. absurd (omega (arith, d.0, e))), is_numeral (b ∷ rest) some all, value, lt-ltb n (2 ^ 63) fits) refl
+    rw (ne_eqb b 45 (λ e. absurd (omega (arith, d.0, e))), number_read (b ∷ rest) n (2 ^ 63 - 1) some all value (omega arith)) refl
 
 negative_read : (xs : List ℕ) (n : ℕ) → 0 < length xs → AllDigits 10 xs → digits_value 10 xs ≡ n → n ≤ 2 ^ 63 → signed_of (45 ∷ xs) ≡ Some (neg_ℤ (pos n))
-negative_read xs n some all value fits = rw (is_numeral xs some all, value, le-leb n (2 ^ 63) fits) refl
+negative_read xs n some all value fits = rw (number_read xs n (2 ^ 63) some all value fits) refl
 
 argument_read : (a : Option ℤ) → FitsSigned w64 (unwrap_or a (pos 0)) → signed_of (argument_text a) ≡ Some (unwrap_or a (pos 0))
 argument_read None fits = refl

@@ -6,10 +6,9 @@ use Rattle.firing_reader.specs.Vocabulary.{next_record, default_config}
 use Rattle.firings.specs.declared.firing.Firing.{Firing}
 use Rattle.firings.specs.declared.trace.TheConstants.{MOST_ROWS}
 use Rattle.firing_reader.specs.{Left.left_in, Pieces.Rises}
-use Rattle.firing_reader.specs.Column.{signed_of}
 use Rattle.firings.specs.Firings.{last_number}
 use Rattle.firing_reader.specs.Plain.{IsEnd, Passes, ReadsRows, rows_after, state_after}
-use Rattle.firing_reader.specs.Plain.{whole_of}
+use Rattle.firing_reader.specs.Column.{number_from, signed_of}
 
 -- a byte that only joins a field: no comma, quote, carriage return or line feed
 abbrev pub JoinsField : ℕ → Type 0
@@ -46,7 +45,7 @@ pub record BeginsRow (bytes : List ℕ) (number : ℕ) (rest : List ℕ) : Type 
   pub joins : JoinsField first
   pub field : List ℕ
   pub passes : Passes (first ∷ more) (field ∷ []) rest
-  pub is_number : whole_of 1 (2 ^ 62) field ≡ Some number
+  pub is_number : number_from 1 (2 ^ 62) field ≡ Some number
 
 -- the last ten columns: arguments, and the fields that write them
 pub record ReadsArguments (bytes rest : List ℕ) (args : List ℤ) : Type 0 where

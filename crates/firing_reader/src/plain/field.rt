@@ -4,13 +4,13 @@
 ghost use Rattle.std.specs.Prelude.{◌≡◌, ◌<◌, ◌≤◌, ◌+◌, ◌*◌, ◌∷◌, [], ℕ, List, IfSome, Some};
 ghost use Rattle.std.specs.Prelude.{take, length};
 ghost use Rattle.std.specs.Str.Parse.{AllDigits, digits_value};
-ghost use Rattle.firing_reader.specs.Column.{signed_of};
+ghost use Rattle.firing_reader.specs.Column.{Whole, number_from, signed_of, value_of};
 ghost use Rattle.firings.specs.Texts.{text_of};
-ghost use Rattle.firing_reader.specs.Plain.{Passes, int_of, whole_of};
+ghost use Rattle.firing_reader.specs.{Plain.Passes};
 ghost use Rattle.firing_reader.specs.Steps.Plain.{BeginsWith, Closes};
 
 use super::front::{after_comma, after_minus, begins_at_end, front, rest_after, word_front};
-use crate::columns::{negative, positive};
+use crate::columns::negative;
 use core::dec2flt::read_digits;
 use firings::{TEXT_LIMIT, Text};
 
@@ -46,7 +46,7 @@ fn one_digit(bytes: &[u8]) -> Option<(u8, &[u8])>
 #[inline(always)]
 pub(crate) fn whole(bytes: &[u8], least: u64, most: u64) -> Option<(u64, &[u8])>
     ensures value { IfSome result (λ p. (field : List ℕ)
-        × BeginsWith bytes.now field (44 ∷ p.1.now) × (whole_of least most field ≡ Some p.0)) }
+        × BeginsWith bytes.now field (44 ∷ p.1.now) × (number_from least most field ≡ Some p.0)) }
     ensures bound { IfSome result (λ p. p.0 ≤ most) }
 {
     let (number, count) = digits(bytes)?;
@@ -61,7 +61,8 @@ pub(crate) fn whole(bytes: &[u8], least: u64, most: u64) -> Option<(u64, &[u8])>
 #[inline(always)]
 pub(crate) fn int(bytes: &[u8], least: u64) -> Option<(i32, &[u8])>
     ensures { IfSome result (λ p. (field : List ℕ)
-        × BeginsWith bytes.now field (44 ∷ p.1.now) × (int_of least field ≡ Some p.0)) }
+        × BeginsWith bytes.now field (44 ∷ p.1.now)
+        × (value_of (Whole least 0x7FFF_FFFF) field ≡ Some p.0)) }
 {
     if least == 0
         && let Some((digit, rest)) = one_digit(bytes)
@@ -116,8 +117,10 @@ fn above_zero(bytes: &[u8]) -> Option<(i64, &[u8])>
         × BeginsWith bytes.now field p.1.now × (signed_of field ≡ Some p.0)) }
 {
     let (number, count) = digits(bytes)?;
-    let value = positive(number)?;
-    Some((value, rest_after(bytes, count)))
+    if number > i64::MAX as u64 {
+        return None;
+    }
+    Some((number as i64, rest_after(bytes, count)))
 }
 
 // An argument whose minus comes before these bytes.
@@ -127,11 +130,10 @@ fn below_zero(bytes: &[u8]) -> Option<(i64, &[u8])>
         × BeginsWith bytes.now field p.1.now × (signed_of (45 ∷ field) ≡ Some p.0)) }
 {
     let (number, count) = digits(bytes)?;
-    if count == 0 {
+    if count == 0 || number > 1 << 63 {
         return None;
     }
-    let value = negative(number)?;
-    Some((value, rest_after(bytes, count)))
+    Some((negative(number), rest_after(bytes, count)))
 }
 
 // An argument, whatever ends it.
