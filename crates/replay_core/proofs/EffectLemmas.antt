@@ -12,8 +12,8 @@ use Rattle.d_types.specs.Clauses.{Made, Ran, run_result, run_with, effect_then, 
 use Rattle.d_types.specs.Clauses.{contributions_in, exit_in, and_then}
 use Rattle.d_types.specs.Storage.{Variables}
 use Rattle.replay_core.specs.declared.evaluation.fault.EvalFault.TheVariants as fault
-use Rattle.replay_core.specs.Effects.{effects_result, NotesEffect, NotesRun}
-use Rattle.replay_core.specs.Steps.Effects.{Performs}
+use Rattle.replay_core.specs.Effects.{NotesRun}
+use Rattle.replay_core.specs.Steps.Effects.{effects_result, NotesEffect, Performs}
 use Rattle.replay_core.specs.Lanes.{Notes}
 use Rattle.replay_core.specs.Pieces.{PieceSeen}
 use Rattle.replay_core.proofs.Noting.{append_nil, notes_nothing, notes_then}
@@ -109,17 +109,17 @@ take_front (x ∷ xs) ys = ap (λ l. x ∷ l) (take_front xs ys)
 
 -- the piece with a fault's line in place of the run's texts
 abbrev with_line : ℕ → List ℕ → (old now : PieceSeen) → PieceSeen
-with_line number line old now = record { texts = old.texts ++ (number, line) ∷ []; table = now.table; taken = now.taken; exit = now.exit }
+with_line number line old now = record { events = old.events ++ (number, line) ∷ []; table = now.table; taken = now.taken; exit = now.exit }
 
-is_with_line : (number : ℕ) (line : List ℕ) (old now end : PieceSeen) → take (length old.texts) now.texts ≡ old.texts
-    → end.texts ≡ take (length old.texts) now.texts ++ (number, line) ∷ [] → end.table ≡ now.table → end.taken ≡ now.taken → end.exit ≡ now.exit
+is_with_line : (number : ℕ) (line : List ℕ) (old now end : PieceSeen) → take (length old.events) now.events ≡ old.events
+    → end.events ≡ take (length old.events) now.events ++ (number, line) ∷ [] → end.table ≡ now.table → end.taken ≡ now.taken → end.exit ≡ now.exit
     → with_line number line old now ≡ end
 is_with_line number line old now end cut texts table taken exit =
-    let seen : List (ℕ × List ℕ) → _ → List ℕ → Option (ℕ × ℕ) → PieceSeen = λ a b c d. record { texts = a; table = b; taken = c; exit = d } in
+    let seen : List (ℕ × List ℕ) → _ → List ℕ → Option (ℕ × ℕ) → PieceSeen = λ a b c d. record { events = a; table = b; taken = c; exit = d } in
     ap (λ t. seen t now.table now.taken now.exit) (sym (texts ∙ ap (λ l. l ++ (number, line) ∷ []) cut))
-    ∙ ap (λ t. seen end.texts t now.taken now.exit) (sym table)
-    ∙ ap (λ t. seen end.texts end.table t now.exit) (sym taken)
-    ∙ ap (λ t. seen end.texts end.table end.taken t) (sym exit)
+    ∙ ap (λ t. seen end.events t now.taken now.exit) (sym table)
+    ∙ ap (λ t. seen end.events end.table t now.exit) (sym taken)
+    ∙ ap (λ t. seen end.events end.table end.taken t) (sym exit)
 
 ends_faulted : (number : ℕ) (line : List ℕ) (whole left : Ran) (old now : PieceSeen) (vars : Variables) (exits : Bool)
     → SoFar number whole left old now exits → left ≡ run_with [] true vars → NotesRun number (run_result line whole) old (with_line number line old now) vars exits
@@ -137,23 +137,23 @@ ends_faulted number line whole left old now vars exits so_far is =
 -- a statement faults, and the line is noted after the texts before the run
 pub faults : (number : ℕ) (line : List ℕ) (whole left : Ran) (o : Outcome Effect) (go : Variables → Ran) (old now next end : PieceSeen) (vars : Variables) (exits : Bool)
     → SoFar number whole left old now exits → left ≡ effect_then o go → Performs number o now (Err fault.DivideByZero) next vars
-    → end.texts ≡ take (length old.texts) next.texts ++ (number, line) ∷ [] → end.table ≡ next.table → end.taken ≡ next.taken → end.exit ≡ next.exit
+    → end.events ≡ take (length old.events) next.events ++ (number, line) ∷ [] → end.table ≡ next.table → end.taken ≡ next.taken → end.exit ≡ next.exit
     → NotesRun number (run_result line whole) old end vars exits
 faults number line whole left (Has effect after) go old now next end vars exits so_far is performs texts table taken exit = absurd performs
 faults number line whole left (Faults after) go old now next end vars exits so_far is performs texts table taken exit =
-    let cut : take (length old.texts) next.texts ≡ old.texts =
-    ap (λ (p : PieceSeen). take (length old.texts) p.texts) performs.1 ∙ ap (take (length old.texts)) (so_far.notes vars).texts
-    ∙ take_front old.texts (map (λ text. (number, text)) (texts_in so_far.done)) in
+    let cut : take (length old.events) next.events ≡ old.events =
+    ap (λ (p : PieceSeen). take (length old.events) p.events) performs.1 ∙ ap (take (length old.events)) (so_far.notes vars).texts
+    ∙ take_front old.events (map (λ text. (number, text)) (texts_in so_far.done)) in
     let faulted = ends_faulted number line whole left old now vars exits so_far (is ∙ ap (run_with [] true) (sym performs.0)) in
     let noted = subst (λ p. NotesRun number (run_result line whole) old (with_line number line old p) vars exits) (sym performs.1) faulted in
     subst (λ p. NotesRun number (run_result line whole) old p vars exits) (is_with_line number line old next end cut texts table taken exit) noted
 
 -- the predicate faults
 pub predicate_faults : (number : ℕ) (line : List ℕ) (old end : PieceSeen) (vars : Variables)
-    → end.texts ≡ take (length old.texts) old.texts ++ (number, line) ∷ [] → end.table ≡ old.table → end.taken ≡ old.taken → end.exit ≡ old.exit
+    → end.events ≡ take (length old.events) old.events ++ (number, line) ∷ [] → end.table ≡ old.table → end.taken ≡ old.taken → end.exit ≡ old.exit
     → NotesRun number (run_result line (run_with [] true vars)) old end vars false
 predicate_faults number line old end vars texts table taken exit =
-    let cut : take (length old.texts) old.texts ≡ old.texts = ap (take (length old.texts)) (append_nil old.texts) ∙ take_front old.texts [] in
+    let cut : take (length old.events) old.events ≡ old.events = ap (take (length old.events)) (append_nil old.events) ∙ take_front old.events [] in
     subst (λ p. NotesRun number (run_result line (run_with [] true vars)) old p vars false) (is_with_line number line old old end cut texts table taken exit)
     (ends_faulted number line (run_with [] true vars) (run_with [] true vars) old old vars false (none_yet number (run_with [] true vars) old) refl)
 

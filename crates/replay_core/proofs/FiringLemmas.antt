@@ -83,10 +83,10 @@ places_within p n (d ∷ ds) =
 -- ---- a firing
 
 pub goes_on : (m : ScriptMeant) (f : Firing) (threads : Threads) (made : Made) (old mid new : PieceSeen) → made ≡ firing_result m f (threads f.thread)
-    → mid ≡ record { texts = old.texts; table = old.table; taken = old.taken ++ f.number ∷ []; exit = old.exit }
+    → mid ≡ record { events = old.events; table = old.table; taken = old.taken ++ f.number ∷ []; exit = old.exit }
     → Notes f.number made mid new → GoesOnBy (history m (f ∷ []) threads) old new
 goes_on m f threads made old mid new is pushed notes = subst (λ r. GoesOnBy ((f, r) ∷ []) old new) is (record {
-  texts = notes.texts ∙ ap (λ p. p.texts ++ map (λ text. (f.number, text)) made.texts) pushed ∙ ap (λ l. old.texts ++ l) (append_nil (map (λ text. (f.number, text)) made.texts));
+  texts = notes.texts ∙ ap (λ p. p.events ++ map (λ text. (f.number, text)) made.texts) pushed ∙ ap (λ l. old.events ++ l) (append_nil (map (λ text. (f.number, text)) made.texts));
   functions = notes.functions ∙ ap (λ p. functions_of p.table) pushed;
   table = λ before stands.
       let from : StandsFor mid.table before = subst (λ p. StandsFor p.table before) (sym pushed) stands in

@@ -3,6 +3,7 @@ pub mod RepeatLemmas
 pub mod PatternTests
 pub mod Stars
 pub mod Noting
+pub mod NotedLemmas
 pub mod Turning
 pub mod EffectLemmas
 pub mod StateLemmas

@@ -21,7 +21,7 @@ or_none (Some x) = refl
 
 pub notes_nothing : (number : ℕ) (vars : Variables) (p : PieceSeen) → Notes number (nothing_made vars) p p
 notes_nothing number vars p = record {
-  texts = append_nil p.texts;
+  texts = append_nil p.events;
   functions = refl;
   table = λ before stands. subst (StandsFor p.table) (append_nil before) stands;
   taken = refl;
@@ -40,8 +40,8 @@ pub notes_then : (number : ℕ) (a b : Made) (p q r : PieceSeen) → Notes numbe
 notes_then number a b p q r first second = record {
   texts = second.texts
       ∙ ap (λ l. l ++ map (λ text. (number, text)) b.texts) first.texts
-      ∙ append_assoc p.texts (map (λ text. (number, text)) a.texts) (map (λ text. (number, text)) b.texts)
-      ∙ ap (λ l. p.texts ++ l) (sym (map-append (λ (text : List ℕ). (number, text)) a.texts b.texts));
+      ∙ append_assoc p.events (map (λ text. (number, text)) a.texts) (map (λ text. (number, text)) b.texts)
+      ∙ ap (λ l. p.events ++ l) (sym (map-append (λ (text : List ℕ). (number, text)) a.texts b.texts));
   functions = second.functions ∙ first.functions;
   table = λ before stands. subst (StandsFor r.table) (append_assoc before a.contributions b.contributions)
       (second.table (before ++ a.contributions) (first.table before stands));

@@ -1,5 +1,5 @@
 -- What the workers of a board give back.
-use Rattle.std.specs.Prelude.{◌≡◌, ◌≤◌, ℕ, true, List, map, All, Vec}
+use Rattle.std.specs.Prelude.{◌≡◌, ◌≤◌, ℕ, true, List, map, All, Vec, IfOk, Result}
 use Rattle.replay_core.specs.Vocabulary.{ClaimBoard, ClaimSeat, Firing, Global, Groups, IsAt}
 use Rattle.replay_core.specs.Vocabulary.{ScriptMeant, flat_map, grouping, least_lowered, least_seen}
 use Rattle.replay_core.specs.Vocabulary.{number_lowered, number_seen, with_ends}
@@ -36,6 +36,12 @@ abbrev pub Gives : Span → (ScriptMeant → Type 0) → Groups → List Firing 
 Gives span.All runs groups trace = GivesPieces span.All runs groups trace
 Gives (span.UpTo last end) runs groups trace = GivesPieces (span.UpTo last end) runs groups trace
 Gives span.UntilExit runs groups trace = GivesBegun runs groups trace
+
+-- a worker did the groups that it took of a board, unless memory was refused
+abbrev pub HasWorked : {E : Type 0} → Span → (ScriptMeant → Type 0) → Groups → List Firing
+    → ClaimBoard → Result Part E → Type 0
+HasWorked span runs groups trace board result =
+    IfOk result (IsWork (Gives span runs groups trace) board)
 
 -- the pieces and the seats are those of these workers, one worker after the other
 pub record AreParts (P : Part → Type 0) (pieces : List (ℕ × Piece)) (seats : List ClaimSeat)

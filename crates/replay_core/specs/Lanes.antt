@@ -14,14 +14,14 @@ pub record LaneSeen : Type 0 where
 -- no firing was run: nothing is assigned, and nothing was made
 pub record IsFresh (lane : LaneSeen) : Type 0 where
   pub threads : lane.threads ≡ blank_threads
-  pub texts : lane.piece.texts ≡ []
+  pub texts : lane.piece.events ≡ []
   pub table : StandsFor lane.piece.table []
   pub taken : lane.piece.taken ≡ []
   pub exit : lane.piece.exit ≡ None
 
 -- the piece goes on by this history
 pub record GoesOnBy (r : List (Firing × Made)) (old new : PieceSeen) : Type 0 where
-  pub texts : new.texts ≡ old.texts ++ texts_of r
+  pub texts : new.events ≡ old.events ++ texts_of r
   pub functions : functions_of new.table ≡ functions_of old.table
   pub table : (before : List Contribution) → StandsFor old.table before
       → StandsFor new.table (before ++ contributions_of r)
@@ -30,7 +30,7 @@ pub record GoesOnBy (r : List (Firing × Made)) (old new : PieceSeen) : Type 0 w
 
 -- a run of a clause at the firing of this number is noted in the piece, which takes no firing by it
 pub record Notes (number : ℕ) (made : Made) (old new : PieceSeen) : Type 0 where
-  pub texts : new.texts ≡ old.texts ++ map (λ text. (number, text)) made.texts
+  pub texts : new.events ≡ old.events ++ map (λ text. (number, text)) made.texts
   pub functions : functions_of new.table ≡ functions_of old.table
   pub table : (before : List Contribution) → StandsFor old.table before
       → StandsFor new.table (before ++ made.contributions)

@@ -8,7 +8,7 @@ use Rattle.replay_core.specs.Groups.{Grouping, SameItems, numbers_by_group}
 -- a lane's piece as contracts see it
 pub record PieceSeen : Type 0 where
   -- each with its firing's number
-  pub texts : List (ℕ × List ℕ)
+  pub events : List (ℕ × List ℕ)
   pub table : List Aggregation
   -- the numbers of the firings
   pub taken : List ℕ
@@ -17,14 +17,14 @@ pub record PieceSeen : Type 0 where
 
 -- what contracts see of a whole, whose numbers are listed group by group
 pub record WholeSeen : Type 0 where
-  pub texts : List (ℕ × List ℕ)
+  pub events : List (ℕ × List ℕ)
   pub table : List Aggregation
   pub ran : List (List ℕ)
   pub exit : Option (ℕ × ℕ)
 
 -- the piece is what the script makes of these firings
 pub record IsPieceOf (m : ScriptMeant) (fs : List Firing) (p : PieceSeen) : Type 0 where
-  pub texts : p.texts ≡ texts_of (history m fs blank_threads)
+  pub texts : p.events ≡ texts_of (history m fs blank_threads)
   pub functions : functions_of p.table ≡ functions_in m
   pub table : StandsFor p.table (contributions_of (history m fs blank_threads))
   pub taken : p.taken ≡ map number_of fs
@@ -33,7 +33,7 @@ pub record IsPieceOf (m : ScriptMeant) (fs : List Firing) (p : PieceSeen) : Type
 -- the whole is what the script makes of these firings, with the numbers of each group's
 pub record IsWholeOf (m : ScriptMeant) (fs : List Firing) (grouping : Grouping)
     (w : WholeSeen) : Type 0 where
-  pub texts : w.texts ≡ texts_of (history m fs blank_threads)
+  pub texts : w.events ≡ texts_of (history m fs blank_threads)
   pub functions : functions_of w.table ≡ functions_in m
   pub table : StandsFor w.table (contributions_of (history m fs blank_threads))
   pub ran : w.ran ≡ numbers_by_group grouping fs

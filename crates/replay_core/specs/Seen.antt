@@ -9,7 +9,7 @@ use Rattle.replay_core.specs.Pieces.{PieceSeen, WholeSeen}
 
 abbrev pub piece_seen : Piece → PieceSeen
 piece_seen p = record {
-  texts = p.events.items;
+  events = p.events.items;
   table = p.table;
   taken = p.taken.items;
   exit = p.exit;
@@ -17,7 +17,7 @@ piece_seen p = record {
 
 abbrev pub whole_seen : Whole → WholeSeen
 whole_seen w = record {
-  texts = w.events.items;
+  events = w.events.items;
   table = w.table;
   ran = map (λ group. group.items) w.ran.items;
   exit = w.exit;

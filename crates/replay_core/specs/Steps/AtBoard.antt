@@ -1,10 +1,19 @@
 -- The ends of all workers, and what they make a round.
 use Rattle.std.specs.Prelude.{◌≡◌, ℕ, List, map, All, Result, Ok}
-use Rattle.replay_core.specs.Vocabulary.{ClaimSeat, Firing, Groups, ScriptMeant, flat_map, grouping}
+use Rattle.replay_core.specs.Vocabulary.{ClaimBoard, ClaimSeat, Firing, Groups, ScriptMeant}
+use Rattle.replay_core.specs.Vocabulary.{flat_map, grouping}
 use Rattle.replay_core.specs.declared.{lanes.piece.Piece.Piece, workers.round.Round.Round}
 use Rattle.replay_core.specs.{Exit.firings_over, Groups.IsAllBelow, Seen.IsRoomy}
 use Rattle.replay_core.specs.Working.{IsOfGroup}
+use Rattle.replay_core.specs.{Selecting.AreSelected, Steps.Working.IsReady}
 use Rattle.replay_core.specs.AtBoard.{Part}
+
+-- a board hands out all groups, and what its workers run is known
+abbrev pub IsGiven : (ScriptMeant → Type 0) → ClaimBoard → Groups → List Firing → List (List ℕ)
+    → Type 0
+IsGiven runs board groups trace selected =
+    (board.end ≡ (grouping groups).count) × IsReady runs groups trace
+    × AreSelected runs trace selected
 
 -- every worker came to its end, and the pieces and the seats are theirs, in order
 pub record AreFinished {E : Type 0} (results : List (Result Part E)) (pieces : List (ℕ × Piece))

@@ -1,14 +1,28 @@
 -- The effect of a statement, noted in a piece.
-use Rattle.std.specs.Prelude.{◌≡◌, ◌+◌, ◌<◌, ◌≤◌, ◌^◌, ℕ, Bool, [], ◌∷◌, Result, Ok, Err, is_some}
-use Rattle.std.specs.Prelude.{length}
-use Rattle.replay_core.specs.Vocabulary.{Effect, Faults, Firing, Has, Outcome, Variables, exit_in}
-use Rattle.replay_core.specs.Vocabulary.{count_held, functions_of}
+use Rattle.std.specs.Prelude.{◌≡◌, ◌+◌, ◌<◌, ◌≤◌, ◌^◌, ℕ, Bool, List, [], ◌∷◌, Result, Ok, Err}
+use Rattle.std.specs.Prelude.{is_some, length}
+use Rattle.replay_core.specs.Vocabulary.{Effect, Faults, Firing, Has, Made, Outcome, Variables}
+use Rattle.replay_core.specs.Vocabulary.{contributions_in, count_held, exit_in, functions_of}
+use Rattle.replay_core.specs.Vocabulary.{texts_in}
 use Rattle.replay_core.specs.declared.{evaluation.fault.EvalFault.EvalFault}
 use Rattle.replay_core.specs.declared.{lanes.piece.Piece.Piece}
 use Rattle.replay_core.specs.declared.{lanes.state.State.State}
 use Rattle.replay_core.specs.{Evaluation.Stays, Evaluation.variables_in, Pieces.PieceSeen}
-use Rattle.replay_core.specs.{Seen.piece_seen}
-use Rattle.replay_core.specs.Effects.{NotesEffect}
+use Rattle.replay_core.specs.{Lanes.Notes, Seen.piece_seen}
+
+-- what effects make, where no fault comes after them
+abbrev pub effects_result : List Effect → Variables → Made
+effects_result effects vars = record {
+  texts = texts_in effects;
+  contributions = contributions_in effects;
+  exit = exit_in effects;
+  variables = vars;
+}
+
+-- an effect is noted, whatever the variables are
+abbrev pub NotesEffect : ℕ → Effect → (old new : PieceSeen) → Type 0
+NotesEffect number effect old new =
+    (vars : Variables) → Notes number (effects_result (effect ∷ []) vars) old new
 
 -- a statement's effect is noted, and whether it exits is returned; at its fault nothing is noted
 abbrev pub Performs : ℕ → Outcome Effect → PieceSeen → Result Bool EvalFault → PieceSeen

@@ -5,7 +5,7 @@ ghost use Rattle.replay_core.specs.Vocabulary.{AreTyped, ClauseMeant, IsSameClau
 ghost use Rattle.replay_core.specs.Vocabulary.{HasTypedBuiltIns};
 ghost use Rattle.replay_core.specs.Vocabulary.{Slots, action_code, count_held, functions_of};
 ghost use Rattle.replay_core.specs.Vocabulary.{meant_of, run_of, statement_count};
-ghost use Rattle.replay_core.specs.{Effects.IsNotedRun};
+ghost use Rattle.replay_core.specs.Effects.{HasTaken, IsNotedRun};
 ghost use Rattle.replay_core.specs.Bounds.{places_among, places_in};
 ghost use Rattle.replay_core.specs.Evaluation.{Stays, variables_in};
 
@@ -43,6 +43,7 @@ pub trait Clause {
     fn run(&self, place: u64, state: &mut State<'_>, piece: &mut Piece) -> Result<bool, AllocError>
         requires places { places self.now ≤ length (functions_of piece.old.table) }
         requires room { count_held piece.old.table + most self.now ≤ 2 ^ 52 }
+        requires taken { HasTaken state.old piece.old }
         ensures functions { functions_of piece.new.table ≡ functions_of piece.old.table }
         ensures taken { piece.new.taken.items ≡ piece.old.taken.items }
         ensures held { count_held piece.new.table ≤ count_held piece.old.table + most self.now }

@@ -4,7 +4,8 @@ ghost use Rattle.std.specs.Prelude.{◌≡◌, ◌+◌, ◌*◌, ◌<◌, ◌≤
 ghost use Rattle.std.specs.Prelude.{MatchOption, OnOk, is_some, length};
 ghost use Rattle.replay_core.specs.Vocabulary.{AreTyped, ClauseMeant, HasTypedBuiltIns, Slots};
 ghost use Rattle.replay_core.specs.Vocabulary.{count_held, functions_of};
-ghost use Rattle.replay_core.specs.{Lanes.Notes, Scripts.AllMean, Seen.piece_seen};
+ghost use Rattle.replay_core.specs.{Effects.HasTaken, Lanes.Notes, Scripts.AllMean};
+ghost use Rattle.replay_core.specs.{Seen.piece_seen};
 ghost use Rattle.replay_core.specs.Steps.AllMade.{all_made};
 ghost use Rattle.replay_core.specs.Evaluation.{Stays, variables_in};
 
@@ -47,7 +48,7 @@ impl<'a> PlacesLeft<'a> {
 
     // Takes the first.
     #[inline(always)]
-    fn next(&mut self) -> Option<u32>
+    fn next(&mut self) -> Option<usize>
         ensures { MatchOption result (self.old ≡ []) (λ place. self.old ≡ place ∷ self.new) }
     {
         if self.first.times > 0 {
@@ -75,6 +76,7 @@ pub(crate) fn run_clauses<C: Clause>(
     requires named { All (λ c. C.places c ≤ length (functions_of piece.old.table)) clauses.now }
     requires few { All (λ c. C.most c ≤ MOST_BYTES) clauses.now }
     requires room { count_held piece.old.table + MOST_BYTES * length places.now ≤ 2 ^ 52 }
+    requires taken { HasTaken state.old piece.old }
     ensures functions { functions_of piece.new.table ≡ functions_of piece.old.table }
     ensures taken { piece.new.taken.items ≡ piece.old.taken.items }
     ensures state { Stays state.old state.new }
@@ -92,10 +94,12 @@ pub(crate) fn run_clauses<C: Clause>(
     ensures held { OnOk result (count_held piece.new.table
         ≤ count_held piece.old.table + MOST_BYTES * length places.now) }
 {
+    let count = clauses.len();
     let mut exits = false;
     let mut left = PlacesLeft::all(places);
     while let Some(place) = left.next() {
-        let exited = clauses[place as usize].run(place as u64 + 1, state, piece)?;
+        prove!(place < count);
+        let exited = clauses[place].run(place as u64 + 1, state, piece)?;
         exits |= exited;
     }
     Ok(exits)

@@ -1,7 +1,7 @@
 //! What a lane's firings made.
 
-ghost use Rattle.std.specs.Prelude.{◌≡◌, ◌+◌, ◌<◌, ◌≤◌, ◌^◌, ◌++◌, ◌∷◌, [], ℕ, IfOk, OnOk, length};
-ghost use Rattle.std.specs.Prelude.{take};
+ghost use Rattle.std.specs.Prelude.{◌≡◌, ◌+◌, ◌<◌, ◌≤◌, ◌^◌, ◌++◌, ◌∷◌, [], ℕ, All, Contains};
+ghost use Rattle.std.specs.Prelude.{IfOk, OnOk, length, take};
 ghost use Rattle.replay_core.specs.Vocabulary.{Effect, count_held, fault_line, functions_of};
 ghost use Rattle.replay_core.specs.Vocabulary.{key_of};
 
@@ -22,11 +22,12 @@ pub struct Piece {
     pub(crate) taken: Vec<u64>,
     // The number of the first that exited, and its status.
     pub(crate) exit: Option<(u64, u8)>,
+    ghost noted: { All (λ event. ∥ Contains taken.items event.0 ∥₁) events.items },
 }
 
 impl Piece {
-    ghost use Rattle.replay_core.specs.{Effects.NotesEffect, Seen.piece_seen};
-    ghost use Rattle.replay_core.specs.Steps.Seen.{IsEmptyPiece};
+    ghost use Rattle.replay_core.specs.{Seen.piece_seen};
+    ghost use Rattle.replay_core.specs.Steps.{Effects.NotesEffect, Seen.IsEmptyPiece};
 
     /// A piece of no firing, with aggregations of these functions.
     pub(crate) fn new(
@@ -48,7 +49,7 @@ impl Piece {
 
     /// The texts, each with its firing's number.
     pub fn events(&self) -> &[(u64, Text)]
-        ensures { result.now ≡ (piece_seen self.now).texts }
+        ensures { result.now ≡ (piece_seen self.now).events }
     {
         &self.events
     }
@@ -67,8 +68,9 @@ impl Piece {
         &self.taken
     }
 
-    /// Notes a text at the firing of this number.
-    pub fn note_text(&mut self, number: u64, text: Text) -> Result<(), AllocError>
+    /// Notes a text at the firing of this number, which was taken.
+    pub(crate) fn note_text(&mut self, number: u64, text: Text) -> Result<(), AllocError>
+        requires { Contains self.old.taken.items number }
         ensures table { self.new.table ≡ self.old.table }
         ensures taken { self.new.taken.items ≡ self.old.taken.items }
         ensures notes { OnOk result
@@ -79,7 +81,7 @@ impl Piece {
     }
 
     /// Notes what an aggregation is given under a key.
-    pub fn note_contribution(
+    pub(crate) fn note_contribution(
         &mut self,
         place: usize,
         key: &Key,
@@ -117,7 +119,7 @@ impl Piece {
     }
 
     /// Notes an exit at the firing of this number: the first counts.
-    pub fn note_exit(&mut self, number: u64, status: u8)
+    pub(crate) fn note_exit(&mut self, number: u64, status: u8)
         ensures table { self.new.table ≡ self.old.table }
         ensures taken { self.new.taken.items ≡ self.old.taken.items }
         ensures notes { NotesEffect number (Effect.Exits status) (piece_seen self.old)
@@ -128,9 +130,16 @@ impl Piece {
         }
     }
 
-    /// Notes a fault of the clause at this place, from 1, at the firing of this number: its line
-    /// takes the place of the texts after the first `before`. Contributions and an exit stay.
-    pub fn note_fault(&mut self, number: u64, place: u64, before: usize) -> Result<(), AllocError>
+    /// Notes a fault of the clause at this place, from 1, at the firing of this number, which was
+    /// taken: its line takes the place of the texts after the first `before`. Contributions and an
+    /// exit stay.
+    pub(crate) fn note_fault(
+        &mut self,
+        number: u64,
+        place: u64,
+        before: usize,
+    ) -> Result<(), AllocError>
+        requires { Contains self.old.taken.items number }
         ensures table { self.new.table ≡ self.old.table }
         ensures taken { self.new.taken.items ≡ self.old.taken.items }
         ensures exit { self.new.exit ≡ self.old.exit }

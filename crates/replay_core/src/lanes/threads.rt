@@ -1,7 +1,7 @@
 //! Runs the clauses of a firing over its thread's variables.
 
-ghost use Rattle.std.specs.Prelude.{◌≡◌, ◌+◌, ◌*◌, ◌<◌, ◌≤◌, ◌^◌, List, All, IfOk, MatchOption};
-ghost use Rattle.std.specs.Prelude.{OnOk, is_some, length, true};
+ghost use Rattle.std.specs.Prelude.{◌≡◌, ◌+◌, ◌*◌, ◌<◌, ◌≤◌, ◌^◌, List, All, Contains, IfOk};
+ghost use Rattle.std.specs.Prelude.{MatchOption, OnOk, is_some, length, true};
 ghost use Rattle.indexmap.specs.IndexMap.{get};
 ghost use Rattle.replay_core.specs.Vocabulary.{AreTyped, AreTypedOwn, ClauseMeant};
 ghost use Rattle.replay_core.specs.Vocabulary.{HasTypedBuiltIns, Slots, count_held, functions_of};
@@ -53,6 +53,7 @@ pub(crate) fn run_on_thread<C: Clause>(
         C.places c ≤ length (functions_of piece.old.table)) due.now.clauses.now }
     requires few { All (λ c. C.most c ≤ MOST_BYTES) due.now.clauses.now }
     requires room { count_held piece.old.table + MOST_BYTES * length due.now.places.now ≤ 2 ^ 52 }
+    requires taken { Contains piece.old.taken.items due.now.firing.now.number }
     ensures functions { functions_of piece.new.table ≡ functions_of piece.old.table }
     ensures taken { piece.new.taken.items ≡ piece.old.taken.items }
     ensures run { IfOk result (λ exits. (slots : Slots) (cs : List ClauseMeant)
@@ -88,6 +89,7 @@ fn run_on_tables<C: Clause>(
         C.places c ≤ length (functions_of piece.old.table)) due.now.clauses.now }
     requires few { All (λ c. C.most c ≤ MOST_BYTES) due.now.clauses.now }
     requires room { count_held piece.old.table + MOST_BYTES * length due.now.places.now ≤ 2 ^ 52 }
+    requires taken { Contains piece.old.taken.items due.now.firing.now.number }
     ensures functions { functions_of piece.new.table ≡ functions_of piece.old.table }
     ensures taken { piece.new.taken.items ≡ piece.old.taken.items }
     ensures notes { OnOk result ((slots : Slots) (cs : List ClauseMeant)

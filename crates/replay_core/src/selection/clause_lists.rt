@@ -100,7 +100,7 @@ fn is_at(lists: &[ClausePlaces], place: usize, list: &ClausePlaces) -> bool
 fn hash_of(hash_key: HashKey, list: &ClausePlaces) -> u64 {
     let mut hasher = hash_key.build_hasher();
     for repeat in &list.repeats {
-        hasher.write(&repeat.place.to_le_bytes());
+        hasher.write(&(repeat.place as u64).to_le_bytes());
         hasher.write(&repeat.times.to_le_bytes());
     }
     hasher.finish()

@@ -8,7 +8,7 @@ use std::marker::Model;
 /// A clause's place, and how many times in a row the clause runs.
 #[derive(Clone, Copy, PartialEq, Eq)]
 pub(crate) struct Repeat {
-    pub(crate) place: u32,
+    pub(crate) place: usize,
     pub(crate) times: u32,
 }
 
@@ -45,16 +45,13 @@ impl ClausePlaces {
     {
         let mut all = ClausePlaces::new(alloc);
         for place in places {
-            let Ok(place) = u32::try_from(*place) else {
-                return Err(AllocError);
-            };
-            all.add(place)?;
+            all.add(*place)?;
         }
         Ok(all)
     }
 
     // Adds a place at the end.
-    fn add(&mut self, place: u32) -> Result<(), AllocError>
+    fn add(&mut self, place: usize) -> Result<(), AllocError>
         ensures { OnOk result (self.new ≡ self.old ++ place ∷ []) }
     {
         let count = self.repeats.len();

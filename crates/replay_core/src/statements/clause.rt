@@ -2,7 +2,8 @@
 
 ghost use Rattle.std.specs.Prelude.{◌≡◌, ◌+◌, ◌≤◌, ◌^◌, IfOk, length, map};
 ghost use Rattle.d_types.specs.Clauses as spec;
-ghost use Rattle.replay_core.specs.{Bounds.places_among, Effects.IsNotedRun, Evaluation.Stays};
+ghost use Rattle.replay_core.specs.{Bounds.places_among, Evaluation.Stays};
+ghost use Rattle.replay_core.specs.Effects.{HasTaken, IsNotedRun};
 ghost use Rattle.replay_core.specs.Vocabulary.{count_held, functions_of};
 
 use crate::evaluation::EvalFault;
@@ -23,6 +24,7 @@ fn run_statements<X: Expression, S: Statement<X>>(
     requires places { places_among (map S.form statements.now)
         ≤ length (functions_of piece.old.table) }
     requires room { count_held piece.old.table + length statements.now ≤ 2 ^ 52 }
+    requires taken { HasTaken state.old piece.old }
     ensures functions { functions_of piece.new.table ≡ functions_of piece.old.table }
     ensures taken { piece.new.taken.items ≡ piece.old.taken.items }
     ensures held { count_held piece.new.table ≤ count_held piece.old.table + length statements.now }
@@ -60,6 +62,7 @@ pub(crate) fn run_clause<X: Expression, S: Statement<X>>(
     requires places { places_among (map S.form statements.now)
         ≤ length (functions_of piece.old.table) }
     requires room { count_held piece.old.table + length statements.now ≤ 2 ^ 52 }
+    requires taken { HasTaken state.old piece.old }
     ensures functions { functions_of piece.new.table ≡ functions_of piece.old.table }
     ensures taken { piece.new.taken.items ≡ piece.old.taken.items }
     ensures held { count_held piece.new.table ≤ count_held piece.old.table + length statements.now }

@@ -2,7 +2,7 @@
 
 ghost use Rattle.std.specs.Prelude.{◌≡◌, ◌+◌, ◌<◌, ◌≤◌, ◌^◌, List, length};
 ghost use Rattle.d_types.specs.Typed as typed;
-ghost use Rattle.replay_core.specs.{Bounds.place_in, Evaluation.Meets};
+ghost use Rattle.replay_core.specs.{Bounds.place_in, Effects.HasTaken, Evaluation.Meets};
 ghost use Rattle.replay_core.specs.Steps.Effects.{HasOneMore, HasRoomAt, IsPerformed};
 ghost use Rattle.replay_core.specs.Vocabulary.{ActionOf, count_held, effect_by, functions_of};
 ghost use Rattle.replay_core.specs.Vocabulary.{Effect, Has, argument_by, with};
@@ -50,6 +50,7 @@ pub(crate) fn trace<X: Expression>(
     state: &mut State<'_>,
     piece: &mut Piece,
 ) -> Result<bool, EvalFault>
+    requires { HasTaken state.old piece.old }
     ensures table { piece.new.table ≡ piece.old.table }
     ensures taken { piece.new.taken.items ≡ piece.old.taken.items }
     ensures effect { IsPerformed (λ f. effect_by (X.by f) (typed.Trace e.now)) result
@@ -68,6 +69,7 @@ pub(crate) fn print<X: Expression>(
     state: &mut State<'_>,
     piece: &mut Piece,
 ) -> Result<bool, EvalFault>
+    requires { HasTaken state.old piece.old }
     ensures table { piece.new.table ≡ piece.old.table }
     ensures taken { piece.new.taken.items ≡ piece.old.taken.items }
     ensures effect { IsPerformed
@@ -170,6 +172,7 @@ pub(crate) trait Statement<X: Expression> {
     fn perform(&self, state: &mut State<'_>, piece: &mut Piece) -> Result<bool, EvalFault>
         requires place { place_in (form self.now) ≤ length (functions_of piece.old.table) }
         requires room { count_held piece.old.table < 2 ^ 52 }
+        requires taken { HasTaken state.old piece.old }
         ensures held { count_held piece.new.table ≤ count_held piece.old.table + 1 }
         ensures functions { functions_of piece.new.table ≡ functions_of piece.old.table }
         ensures taken { piece.new.taken.items ≡ piece.old.taken.items }

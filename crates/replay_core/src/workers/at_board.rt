@@ -1,11 +1,10 @@
 //! Workers at a board, each in a thread of its own.
 
 ghost use Rattle.std.specs.Prelude.{◌≡◌, ◌+◌, All, vec_len, IfOk, OnOk};
-ghost use Rattle.replay_core.specs.Vocabulary.{IsAt, IsNew, grouping};
-ghost use Rattle.replay_core.specs.{Selecting.AreSelected};
-ghost use Rattle.replay_core.specs.Steps.Working.{IsReady};
-ghost use Rattle.replay_core.specs.AtBoard.{Gives, IsWork};
-ghost use Rattle.replay_core.specs.Steps.{AtBoard.AreFinished, Worked.IsWorkAdded};
+ghost use Rattle.replay_core.specs.Vocabulary.{IsAt, IsNew};
+ghost use Rattle.replay_core.specs.{AtBoard.HasWorked};
+ghost use Rattle.replay_core.specs.Steps.AtBoard.{AreFinished, IsGiven};
+ghost use Rattle.replay_core.specs.Steps.{Worked.IsWorkAdded};
 
 use crate::lanes::Lanes;
 use crate::lanes::piece::Piece;
@@ -34,9 +33,33 @@ pub(crate) struct Works<'a, L> {
     span: Span,
 }
 
+impl<'a, L: Lanes> Works<'a, L> {
+    fn new(
+        board: &'a ClaimBoard,
+        lanes: &'a L,
+        trace: &'a Trace,
+        groups: &'a Groups,
+        span: Span,
+    ) -> Works<'a, L>
+        ensures board { result.board.now ≡ board.now }
+        ensures lanes { result.lanes.now ≡ lanes.now }
+        ensures trace { result.trace.now ≡ trace.now }
+        ensures groups { result.groups.now ≡ groups.now }
+        ensures span { result.span ≡ span }
+    {
+        Works {
+            board,
+            lanes,
+            trace,
+            groups,
+            span,
+        }
+    }
+}
+
 impl<'a, L: Lanes> Promise<Worked> for Works<'a, L> {
-    ghost kept_by = { λ p r. IfOk r
-        (IsWork (Gives p.span (L.runs p.lanes.now) p.groups.now p.trace.now) p.board.now) };
+    ghost kept_by = { λ p r. HasWorked
+        p.span (L.runs p.lanes.now) p.groups.now p.trace.now p.board.now r };
 }
 
 /// What lends selections. The closures of threads capture a value of a type parameter with this
@@ -77,16 +100,12 @@ where
     S: LendSelections + Sync,
     G: Gate + Sync,
     requires seats { All (λ s. IsAt board.now s × IsNew s) seats.items }
-    requires end { board.now.end ≡ (grouping input.now.groups.now).count }
-    requires ready { IsReady (L.runs input.now.lanes.now) input.now.groups.now input.now.trace.now }
-    requires selected { AreSelected
-        (L.runs input.now.lanes.now) input.now.trace.now (S.lent selections.now) }
+    requires given { IsGiven (L.runs input.now.lanes.now) board.now
+        input.now.groups.now input.now.trace.now (S.lent selections.now) }
     ensures len { IfOk result (λ v. vec_len v ≡ vec_len seats) }
-    ensures works { IfOk result (λ v. All (λ r. IfOk r (IsWork
-        (Gives span (L.runs input.now.lanes.now) input.now.groups.now input.now.trace.now)
-        board.now)) v.items) }
+    ensures works { IfOk result (λ v. All (HasWorked span (L.runs input.now.lanes.now)
+        input.now.groups.now input.now.trace.now board.now) v.items) }
 {
-    // A contract knows nothing of a closure that captures a value with a lifetime.
     let (alloc, lanes, trace) = (input.alloc, input.lanes, input.trace);
     let (groups, gate) = (input.groups, input.gate);
     thread::scope(
@@ -94,34 +113,22 @@ where
         rt,
         |scope| -> Result<Vec<Worked>, AllocError>
             requires seats { All (λ s. IsAt board.now s × IsNew s) seats.items }
-            requires end { board.now.end ≡ (grouping groups.now).count }
-            requires ready { IsReady (L.runs lanes.now) groups.now trace.now }
-            requires selected { AreSelected (L.runs lanes.now) trace.now (S.lent selections.now) }
+            requires given { IsGiven (L.runs lanes.now)
+                board.now groups.now trace.now (S.lent selections.now) }
             ensures len { IfOk result (λ v. vec_len v ≡ vec_len seats) }
-            ensures works { IfOk result (λ v. All (λ r. IfOk r
-                (IsWork (Gives span (L.runs lanes.entry.now) groups.entry.now trace.entry.now)
-                board.entry.now)) v.items) }
+            ensures works { IfOk result (λ v. All (HasWorked span (L.runs lanes.entry.now)
+                groups.entry.now trace.entry.now board.entry.now) v.items) }
         {
             let mut handles = Vec::with_capacity(alloc, seats.len())?;
             for seat in seats {
-                let promise = Works {
-                    board,
-                    lanes,
-                    trace,
-                    groups,
-                    span,
-                };
                 let child = scope.spawn_with(
-                    promise,
+                    Works::new(board, lanes, trace, groups, span),
                     move || -> Worked
                         requires seat { IsAt board.now seat × IsNew seat }
-                        requires end { board.now.end ≡ (grouping groups.now).count }
-                        requires ready { IsReady (L.runs lanes.now) groups.now trace.now }
-                        requires selected { AreSelected (L.runs lanes.now)
-                            trace.now (S.lent selections.now) }
-                        ensures { IfOk result
-                            (IsWork (Gives span (L.runs lanes.entry.now) groups.entry.now
-                            trace.entry.now) board.entry.now) }
+                        requires given { IsGiven (L.runs lanes.now)
+                            board.now groups.now trace.now (S.lent selections.now) }
+                        ensures { HasWorked span (L.runs lanes.entry.now)
+                            groups.entry.now trace.entry.now board.entry.now result }
                     {
                         let input = WorkerInput {
                             alloc,
@@ -153,13 +160,10 @@ fn at_board<R: Wait, L: Lanes, G: Gate>(
     span: Span,
 ) -> Worked
     requires seat { IsAt board.now seat × IsNew seat }
-    requires end { board.now.end ≡ (grouping input.now.groups.now).count }
-    requires ready { IsReady (L.runs input.now.lanes.now) input.now.groups.now input.now.trace.now }
-    requires selected { AreSelected
-        (L.runs input.now.lanes.now) input.now.trace.now input.now.selections.now }
-    ensures { IfOk result (IsWork (Gives span
-        (L.runs input.entry.now.lanes.now) input.entry.now.groups.now input.entry.now.trace.now)
-        board.entry.now) }
+    requires given { IsGiven (L.runs input.now.lanes.now) board.now
+        input.now.groups.now input.now.trace.now input.now.selections.now }
+    ensures { HasWorked span (L.runs input.entry.now.lanes.now)
+        input.entry.now.groups.now input.entry.now.trace.now board.entry.now result }
 {
     match span {
         Span::UntilExit => watch_on(rt, board, seat, input),

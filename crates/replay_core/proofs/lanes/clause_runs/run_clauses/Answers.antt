@@ -7,7 +7,7 @@ use Rattle.firings.specs.declared.firing.Firing.{Firing}
 use Rattle.replay_core.specs.Effects.{NotesRun}
 use Rattle.replay_core.specs.Evaluation.{variables_in}
 use Rattle.replay_core.specs.Seen.{piece_seen}
-use Rattle.replay_core.proofs.StateLemmas.{stays_then}
+use Rattle.replay_core.proofs.StateLemmas.{stays_then, taken_still}
 use Rattle.replay_core.proofs.Turning.{Continues, continues_all, continues_start, exits_all, turn_more}
 use Rattle.shard_queue.proofs.Lists.{all_head, all_tail}
 use Rattle.replay_core.proofs.lanes.clause_runs.run_clauses.Goals as goal
@@ -40,6 +40,11 @@ run-requires-clause-places g c =
     let named = subst (λ x. g.C.Clause.places x ≤ n) (sym c.index-clauses-place.is) (c.requires.named c.in-Some.place clause inside) in
     let same = ap length c.loop-place.invariant.functions in
     omega (arith, named, same)
+
+pub run-requires-clause-taken : goal.run-requires-clause-taken
+run-requires-clause-taken g c =
+    let i = c.loop-place.invariant in
+    taken_still c.args.state.now c.loop-place.state c.args.piece.now c.loop-place.piece i.stays i.taken c.requires.taken
 
 pub run-requires-clause-room : goal.run-requires-clause-room
 run-requires-clause-room g c =

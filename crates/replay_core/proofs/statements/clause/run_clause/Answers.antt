@@ -1,5 +1,5 @@
 use Rattle.std.specs.Prelude.{◌≡◌, ◌∷◌, ◌++◌, [], false, length, map, take, Err}
-use Rattle.std.proofs.Common.{rules, subst, sym, ap, ◌∙◌}
+use Rattle.std.proofs.Common.{refl, rules, subst, sym, ap, ◌∙◌}
 use Rattle.d_types.specs.Expressions.{number_outcome}
 use Rattle.d_types.specs.Clauses.{fault_line, where_predicate, run_result, statements_by}
 use Rattle.d_types.specs.Clauses.{where_true}
@@ -7,8 +7,12 @@ use Rattle.replay_core.specs.Effects.{NotesRun}
 use Rattle.replay_core.specs.Evaluation.{Returns, variables_in}
 use Rattle.replay_core.specs.Seen.{piece_seen}
 use Rattle.replay_core.proofs.EffectLemmas.{predicate_faults}
-use Rattle.replay_core.proofs.StateLemmas.{number_stays}
+use Rattle.replay_core.proofs.StateLemmas.{number_stays, taken_still}
 use Rattle.replay_core.proofs.statements.clause.run_clause.Goals as goal
+
+pub note_fault-requires : goal.note_fault-requires
+note_fault-requires g c =
+    taken_still c.args.state.now c.evaluate_word.new.state c.args.piece.now c.args.piece.now c.evaluate_word.ensures.0 refl c.requires.taken
 
 pub returns-in-Err-DivideByZero-clause-run : goal.returns-in-Err-DivideByZero-clause-run
 returns-in-Err-DivideByZero-clause-run g c =

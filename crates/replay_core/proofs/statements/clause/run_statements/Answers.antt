@@ -10,7 +10,7 @@ use Rattle.replay_core.specs.Evaluation.{variables_in}
 use Rattle.replay_core.specs.Seen.{piece_seen}
 use Rattle.replay_core.proofs.EffectLemmas.{SoFar, none_yet, goes_on, faults, ends}
 use Rattle.replay_core.proofs.PlaceLemmas.{place_at}
-use Rattle.replay_core.proofs.StateLemmas.{number_stays, stays_then}
+use Rattle.replay_core.proofs.StateLemmas.{number_stays, stays_then, taken_still}
 use Rattle.replay_core.proofs.statements.clause.run_statements.Goals as goal
 
 pub perform-requires-clause-place : goal.perform-requires-clause-place
@@ -19,6 +19,17 @@ perform-requires-clause-place g c =
     let at = ap (λ s. place_in (g.S.Statement.form s)) c.statement-item.is in
     let same = ap length c.loop-statement.invariant.functions in
     omega (arith, few, at, same)
+
+pub perform-requires-clause-taken : goal.perform-requires-clause-taken
+perform-requires-clause-taken g c =
+    let i = c.loop-statement.invariant in
+    taken_still c.args.state.now c.loop-statement.state c.args.piece.now c.loop-statement.piece i.stays i.taken c.requires.taken
+
+pub note_fault-requires : goal.note_fault-requires
+note_fault-requires g c =
+    let i = c.loop-statement.invariant in
+    let stays = stays_then c.args.state.now c.loop-statement.state c.perform.new.state i.stays c.perform.ensures.effect.0 in
+    taken_still c.args.state.now c.perform.new.state c.args.piece.now c.perform.new.piece stays (c.perform.ensures.taken ∙ i.taken) c.requires.taken
 
 pub loop-statement-init : goal.loop-statement-init
 loop-statement-init g c = record {

@@ -1,7 +1,7 @@
 use Rattle.std.proofs.Common.{◌%◌, subst}
 use Rattle.d_types.specs.declared.effect.Effect.TheVariants as ef
 use Rattle.d_types.specs.Expressions.{number_outcome}
-use Rattle.replay_core.specs.Effects.{NotesEffect}
+use Rattle.replay_core.specs.Steps.Effects.{NotesEffect}
 use Rattle.replay_core.specs.Evaluation.{variables_in}
 use Rattle.replay_core.specs.Seen.{piece_seen}
 use Rattle.replay_core.proofs.EffectLemmas.{leaves}

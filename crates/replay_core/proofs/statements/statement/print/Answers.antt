@@ -1,12 +1,16 @@
-use Rattle.std.proofs.Common.{rules, subst}
+use Rattle.std.proofs.Common.{refl, rules, subst}
 use Rattle.d_types.specs.declared.effect.Effect.TheVariants as ef
 use Rattle.d_types.specs.Printing.{printf_text}
-use Rattle.replay_core.specs.Effects.{NotesEffect}
+use Rattle.replay_core.specs.Steps.Effects.{NotesEffect}
 use Rattle.replay_core.specs.Evaluation.{variables_in}
 use Rattle.replay_core.specs.Seen.{piece_seen}
 use Rattle.replay_core.proofs.EffectLemmas.{says}
-use Rattle.replay_core.proofs.StateLemmas.{number_stays}
+use Rattle.replay_core.proofs.StateLemmas.{number_stays, taken_still}
 use Rattle.replay_core.proofs.statements.statement.print.Goals as goal
+
+pub note_text-requires : goal.note_text-requires
+note_text-requires g c =
+    taken_still c.args.state.now c.evaluate_arguments.new.state c.args.piece.now c.args.piece.now c.in_ok-arguments.ensures.0 refl c.requires
 
 pub returns-clause-effect : goal.returns-clause-effect
 returns-clause-effect g c =

@@ -1,7 +1,8 @@
-use Rattle.std.specs.Prelude.{◌≡◌, ◌+◌, ◌<◌, All, length, map, if◌then◌else◌, is_some}
+use Rattle.std.specs.Prelude.{◌≡◌, ◌+◌, ◌<◌, All, Contains, length, map, if◌then◌else◌, is_ok, is_some}
 use Rattle.std.specs.Ordering.{int_eq}
 use Rattle.std.proofs.Common.{rules, arith, subst, sym, ap, ◌∙◌}
 use Rattle.std.proofs.lemmas.List.{length-map}
+use Rattle.std.proofs.lemmas.List.Elements.{Contains-push}
 use Rattle.std.proofs.lemmas.Result.{on_ok_weaker, IfOk-weaker}
 use Rattle.d_types.specs.Held.{AreTypedOwn, slots_of}
 use Rattle.d_types.proofs.FiringValues.{firing_is}
@@ -12,6 +13,7 @@ use Rattle.replay_core.specs.Threads.{threads_in}
 use Rattle.replay_core.specs.Steps.AllMade.{all_made}
 use Rattle.replay_core.proofs.FiringLemmas.{goes_on, places_within, some_same}
 use Rattle.replay_core.proofs.FiringLemmas.{all_made_are}
+use Rattle.replay_core.proofs.NotedLemmas.{firing_taken}
 use Rattle.replay_core.proofs.SelectionLemmas.{zip_length}
 use Rattle.replay_core.proofs.ThreadLemmas.{typed_after}
 use Rattle.replay_core.proofs.lanes.lane.Lane.run.Goals as goal
@@ -30,6 +32,16 @@ pub run_on_thread-requires-clause-room : goal.run_on_thread-requires-clause-room
 run_on_thread-requires-clause-room g c =
     let held = c.requires.room in
     omega (arith, held, c.requires.few, c.requires.places)
+
+pub invariant_of-self : goal.invariant_of-self
+invariant_of-self g c =
+    let piece = c.args.self.now.piece in
+    (firing_taken (is_ok c.push.result) piece.taken.items c.push.new.self.items piece.events.items c.args.firing.now.number c.push.ensures.items piece.noted, tt)
+
+pub run_on_thread-requires-clause-taken : goal.run_on_thread-requires-clause-taken
+run_on_thread-requires-clause-taken g c =
+    let number = c.args.firing.now.number in
+    subst (λ l. Contains l number) (sym c.in_ok-push.ensures.items) (Contains-push c.args.self.now.piece.taken.items number)
 
 pub returns-clause-room : goal.returns-clause-room
 returns-clause-room g c =

@@ -1,4 +1,4 @@
-use Rattle.std.proofs.Common.{arith, ◌≡◌, ap}
+use Rattle.std.proofs.Common.{arith, ◌≡◌, ◌∙◌, ap}
 use Rattle.shard_queue.specs.Boards.{IsAt, IsNew}
 use Rattle.shard_queue.proofs.Lists.{all_tail, all_push}
 use Rattle.replay_core.proofs.workers.at_board.fn.in_threads.scope.Goals as goal
@@ -8,7 +8,7 @@ loop-seat-preserved g c =
     let i = c.loop-seat.invariant in
     let p = c.in_ok-child.ensures.ok in
     let w = c.in_ok-child.child.promise in
-    let kept : (w.board.now ≡ c.captures.board.now) × (w.lanes.now ≡ c.captures.lanes.now) × (w.trace.now ≡ c.captures.trace.now) × (w.groups.now ≡ c.captures.groups.now) × (w.span ≡ c.captures.span) = (ap (λ w. w.board.now) p, ap (λ w. w.lanes.now) p, ap (λ w. w.trace.now) p, ap (λ w. w.groups.now) p, ap (λ w. w.span) p) in
+    let kept : (w.board.now ≡ c.captures.board.now) × (w.lanes.now ≡ c.captures.lanes.now) × (w.trace.now ≡ c.captures.trace.now) × (w.groups.now ≡ c.captures.groups.now) × (w.span ≡ c.captures.span) = (ap (λ w. w.board.now) p ∙ c.new.ensures.board, ap (λ w. w.lanes.now) p ∙ c.new.ensures.lanes, ap (λ w. w.trace.now) p ∙ c.new.ensures.trace, ap (λ w. w.groups.now) p ∙ c.new.ensures.groups, ap (λ w. w.span) p ∙ c.new.ensures.span) in
     record {
       len = let l = c.push_reserved.ensures.len in let s = c.in-Some.ensures.steps.1 in let m = i.len in omega arith;
       room = let l = c.push_reserved.ensures.capacity in let m = i.room in omega arith;
