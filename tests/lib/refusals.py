@@ -28,7 +28,7 @@ class Refusals:
         self.kept = rt.Kept(list({it.name: it for it in crates}.values()), is_anew)
         self.scripts = hashlib.sha256(repr(is_beside).encode())
         here = os.path.dirname(__file__)
-        scripts = "../edits bodies.py jobs.py skeletons.py toolchain.py without_advice"
+        scripts = "../edits bodies.py jobs.py places.py skeletons.py toolchain.py without_advice"
         for script in scripts.split():
             with open(f"{here}/{script}", "rb") as file:
                 self.scripts.update(file.read())

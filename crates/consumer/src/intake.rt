@@ -330,8 +330,7 @@ impl<'a, R: Threads + Sync> BundleIntake<'a, R> {
     {
         let mut reading = Reading::new(alloc)?;
         while reading.calls_left > 0 {
-            let ended = self.take_from(feed, &mut reading)?;
-            if ended {
+            if self.take_from(feed, &mut reading)? {
                 return Ok(());
             }
         }
