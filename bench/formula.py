@@ -75,9 +75,9 @@ MADE_BY_GROUPS = [
 # The bytes of a trace that several workers read at a time, unless a row is longer.
 READ_TOGETHER = 1 << 22
 # The digits of a thread and a pid, if a plain row is read without csv.
-MOST_DIGITS = 20
+MAX_DIGITS = 20
 # The fewest entries of an aggregation that threads write, and the most that they write at a time.
-LEAST_BY_THREADS, MOST_BY_THREADS = 2_048, 32_768
+MIN_BY_THREADS, MAX_BY_THREADS = 2_048, 32_768
 
 
 def bound(counts):
@@ -102,7 +102,7 @@ def count_longest_row(counts, trace):
 
 def kept_as(thread, pid, execname):
     """Returns what an owner is told from others by: csv reads one whose numbers are too long."""
-    if len(thread) + len(pid) > MOST_DIGITS:
+    if len(thread) + len(pid) > MAX_DIGITS:
         return int(thread), int(pid), execname
     return thread, pid, execname
 

@@ -5,7 +5,7 @@ BYTES = b"\0\t\n\r \"#%&'()*+,-./0:;<=>?@[\\]^_`aeghi{|}~\x7f\x80\xc3\xff"
 NUMBERS = [b"0", b"1", b"-1", b"8", b"9", b"07", b"0x", b"64", b"255", b"256", b"65535", b"65536"]
 NUMBERS += [b"%d" % (2**power + more) for power in (31, 32, 62, 63, 64) for more in (-1, 0, 1)]
 # A repetition makes no text longer than this.
-MOST = 100_000
+MAX_BYTES = 100_000
 
 
 def slice_of(rng, text):
@@ -42,7 +42,7 @@ def drop_a_slice(rng, text, other):
 
 def repeat_a_slice(rng, text, other):
     first, last = slice_of(rng, text)
-    times = min(rng.choice((2, 3, 9, 65, 1100)), MOST // (last - first + 1) + 1)
+    times = min(rng.choice((2, 3, 9, 65, 1100)), MAX_BYTES // (last - first + 1) + 1)
     return text[:first] + text[first:last] * times + text[last:]
 
 

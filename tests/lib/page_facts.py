@@ -17,19 +17,19 @@ FIGURES = (
 )
 # A page with a limit, and the module and the constant that have it in code.
 LIMITS = (
-    ("docs/DIF.md", r"`ldgs` is over (\d+)", "dif_validate/src/instruction", "LAST_BUILT_IN"),
-    ("docs/GRAMMAR.md", r"bytes, at most (\S+) of them", "d_lexer/src/fault", "MOST_BYTES"),
-    ("docs/GRAMMAR.md", r"at most (\d+) open", "d_parser/src/fault", "MOST_OPEN"),
-    ("docs/GRAMMAR.md", r"at most\s(\S+) tokens in a row", "d_parser/src/fault", "MOST_IN_A_ROW"),
-    ("docs/GRAMMAR.md", r"at most (\d+) `\{`", "d_parser/src/fault", "MOST_CLAUSES"),
-    ("docs/LANGUAGE.md", r"a width from 1 to (\d+)", "d_types/src/format", "MOST_WIDTH"),
-    ("docs/LANGUAGE.md", r"there is none\) to (\d+)", "aggregations/src/linear_range", "MOST_STEP"),
-    ("docs/LANGUAGE.md", r"to (\d+) steps", "aggregations/src/linear_range", "MOST_LEVELS"),
-    ("docs/RELIABILITY.md", r"bounded: (\S+) bytes", "d_lexer/src/fault", "MOST_BYTES"),
-    ("docs/RELIABILITY.md", r"levels,\s(\S+) rows", "firings/src/trace", "MOST_ROWS"),
-    ("docs/TRACE.md", r"UTF-8 of at most (\d+) bytes", "firings/src/text", "TEXT_LIMIT"),
-    ("README.md", r"workers, 1 to (\d+)", "shard_queue/src/queue", "MOST_WORKERS"),
-    ("README.md", r"groups, 1 to (\d+)", "shard_queue/src/groups", "MOST_GROUPS"),
+    ("docs/DIF.md", r"`ldgs` is over (\d+)", "dif_validate/src/instruction", "MAX_BUILT_IN"),
+    ("docs/GRAMMAR.md", r"bytes, at most (\S+) of them", "d_lexer/src/fault", "MAX_BYTES"),
+    ("docs/GRAMMAR.md", r"at most (\d+) open", "d_parser/src/limits", "MAX_OPEN"),
+    ("docs/GRAMMAR.md", r"at most\s(\S+) tokens in a row", "d_parser/src/limits", "MAX_IN_A_ROW"),
+    ("docs/GRAMMAR.md", r"at most (\d+) `\{`", "d_parser/src/limits", "MAX_CLAUSES"),
+    ("docs/LANGUAGE.md", r"a width from 1 to (\d+)", "d_types/src/limits", "MAX_WIDTH"),
+    ("docs/LANGUAGE.md", r"there is none\) to (\d+)", "aggregations/src/linear_range", "MAX_STEP"),
+    ("docs/LANGUAGE.md", r"to (\d+) steps", "aggregations/src/linear_range", "MAX_LEVELS"),
+    ("docs/RELIABILITY.md", r"bounded: (\S+) bytes", "d_lexer/src/fault", "MAX_BYTES"),
+    ("docs/RELIABILITY.md", r"levels,\s(\S+) rows", "firings/src/limits", "MAX_ROWS"),
+    ("docs/TRACE.md", r"UTF-8 of at most (\d+) bytes", "firings/src/limits", "MAX_TEXT"),
+    ("README.md", r"workers, 1 to (\d+)", "shard_queue/src/limits", "MAX_WORKERS"),
+    ("README.md", r"groups, 1 to (\d+)", "shard_queue/src/limits", "MAX_GROUPS"),
 )
 NUMBERS = "one two three four five six seven eight nine ten eleven twelve".split()
 

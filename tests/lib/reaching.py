@@ -31,7 +31,7 @@ MACRO = re.compile(r"^macro_rules! (\w+) (\{.*?^\})", re.MULTILINE | re.DOTALL)
 GIVES_FUNCTION = re.compile(r"\s*(?:(?:move )?\||[A-Z]\w*(?:::\w+)?\s*$)")
 TAKES_NUMBER = re.compile(r".*: (?:usize|[iu]\d+)$", re.DOTALL)
 # What CONTRIBUTING.md asks of a function.
-MOST_LINES, MOST_PARAMETERS = 40, 5
+MAX_LINES, MAX_PARAMETERS = 40, 5
 
 
 @dataclass
@@ -69,7 +69,7 @@ class Function:
     def is_large(self):
         """Whether it has more lines, or takes more, than a function should."""
         lines = [line for line in self.body.split("\n") if line.strip(" {}")]
-        return len(lines) > MOST_LINES or len(self.parameters) + self.takes_self > MOST_PARAMETERS
+        return len(lines) > MAX_LINES or len(self.parameters) + self.takes_self > MAX_PARAMETERS
 
 
 def crate_of(path):

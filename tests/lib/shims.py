@@ -7,7 +7,7 @@ import tempfile
 
 from lib import harness
 
-MOST = 1_000_000
+MAX_CALLS = 1_000_000
 
 
 @contextlib.contextmanager
@@ -49,7 +49,7 @@ def run(case, program, plan, shim, refusals):
 def sweep(tally, label, nth_run, wants, expected):
     """Refuses the first call, then the second, and so on, until a run has none left to refuse:
     `nth_run` runs the case with its nth call refused, and `wants` says what it may leave then."""
-    for nth in range(1, MOST):
+    for nth in range(1, MAX_CALLS):
         try:
             result, was_refused = nth_run(nth)
         except subprocess.TimeoutExpired:

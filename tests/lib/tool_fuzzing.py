@@ -22,7 +22,7 @@ SECONDS, SECONDS_BY_THE_CLOCK = (
 )  # of the processor, and on a busy machine, that a run may take
 MEMORY = 2 << 30
 TOOLS = f"{harness.TOP}/tools"
-MOST_SAID = 2_000  # bytes of a line on standard error
+MAX_SAID = 2_000  # bytes of a line on standard error
 BROKEN = (b"Traceback", b"a fault of this tool", b"Error: ", b"most recent call")
 CONTROLS = re.compile(rb"[\0-\x08\x0b-\x1f\x7f]")
 COMMANDS = ("true", "cat", "zstd")  # that a run finds on PATH, beside the programs and a strace
@@ -229,8 +229,8 @@ def said_fault(subject, result):
     if CONTROLS.search(result.stderr):
         return f"standard error has control characters: {result.stderr[:300]!r}"
     lines = result.stderr.splitlines()
-    if any(len(line) > MOST_SAID for line in lines):
-        return f"a line on standard error has over {MOST_SAID} bytes"
+    if any(len(line) > MAX_SAID for line in lines):
+        return f"a line on standard error has over {MAX_SAID} bytes"
     speakers = tuple(f"{tool}: ".encode() for tool in (subject.tool, *subject.speakers))
     is_explained = result.status in subject.explains
     if not is_explained and not all(line.startswith(speakers) for line in lines):

@@ -7,8 +7,8 @@ from typing import NamedTuple
 
 WORDS = 2**64
 REGISTERS = range(8)
-MOST_PARTS = 8
-MOST_JOINED = 255
+MAX_PARTS = 8
+MAX_JOINED = 255
 
 
 def to_signed(word):
@@ -51,7 +51,7 @@ CONDITIONS = {
     "bleu": lambda as_signed, as_unsigned: as_unsigned <= 0,
 }
 BUILT_INS = ["time", "cpu", "pid", "thread", "execname", "provider", "module", "function", "name"]
-FUNCTIONS = {"strlen": len, "strjoin": lambda one, other: (one + other)[:MOST_JOINED]}
+FUNCTIONS = {"strlen": len, "strjoin": lambda one, other: (one + other)[:MAX_JOINED]}
 
 # The operands of each instruction, as they print: registers, a place in the code or a table, a
 # variable, a function.

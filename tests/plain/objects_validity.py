@@ -7,7 +7,7 @@ lead to it agree on.
 import functools
 from typing import NamedTuple
 
-from plain.objects_machine import BUILT_INS, CONDITIONS, MOST_PARTS, OPERATORS, REGISTERS
+from plain.objects_machine import BUILT_INS, CONDITIONS, MAX_PARTS, OPERATORS, REGISTERS
 
 # in the order of their numbers
 FAULTS = [
@@ -129,7 +129,7 @@ def faults_on_ways(it, known, returned):
 def takes(it, parts):
     """Whether an instruction may come where the tuple has these kinds."""
     if it.name.startswith("pusht"):
-        return len(parts) < MOST_PARTS
+        return len(parts) < MAX_PARTS
     if it.name in ("ldtaa", "sttaa"):
         return parts != ""
     return it.name != "call" or parts == PARAMETERS[it.function]

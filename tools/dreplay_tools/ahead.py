@@ -2,7 +2,7 @@
 import collections
 import re
 
-MOST_AHEAD = 50_000
+MAX_AHEAD = 50_000
 RUN = 3  # parts of a run of lines
 THREAD = re.compile(r"(?:\[pid +)?(\d{0,10})", re.ASCII)
 
@@ -61,7 +61,7 @@ class Ahead:
             found = wanted(line)
             if found is not None:
                 return found
-        while self.count < MOST_AHEAD:
+        while self.count < MAX_AHEAD:
             line = next(self.lines, None)
             if line is None:
                 return None

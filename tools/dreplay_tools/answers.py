@@ -16,14 +16,14 @@ from .script import FUNCTIONS, Aggregation
 OTHER_ANSWER = 1
 FORMAT, VERSION = "dreplay-data", 1
 NUMBERS = (-(2**63), 2**63 - 1)
-MOST_COUNT = 2**64 - 1
-COUNTS = (1, MOST_COUNT)
+MAX_COUNT = 2**64 - 1
+COUNTS = (1, MAX_COUNT)
 FIRINGS = (0, 2**64)
 BOUNDS = (-(2**31), 2**31 - 1)
 STEPS = (1, 65_535)
-MOST_AGGREGATIONS, MOST_KEYS, MOST_DIGITS = 65_536, 8, 30
-MOST_OF_A_LINE = 1 << 26  # bytes
-MOST_ROWS = 1_000_000  # of all histograms that are shown
+MAX_AGGREGATIONS, MAX_KEYS, MAX_DIGITS = 65_536, 8, 30
+MAX_OF_A_LINE = 1 << 26  # bytes
+MAX_ROWS = 1_000_000  # of all histograms that are shown
 SHARED = ("count", "sum")  # functions whose values have a total
 TITLE = re.compile(r"@(?:[A-Za-z_]\w*)?", re.ASCII)
 HEX = re.compile(r"(?:[0-9a-f]{2})*", re.ASCII)
@@ -83,8 +83,8 @@ class Table:
 def all_shown(chosen):
     """Tables as they are shown, each with those of its entries that are."""
     rows = sum(table.rows(entries) for table, entries in chosen)
-    if rows > MOST_ROWS:
-        why = f"the histograms have {rows:,} rows, more than {MOST_ROWS:,}: take fewer by --top"
+    if rows > MAX_ROWS:
+        why = f"the histograms have {rows:,} rows, more than {MAX_ROWS:,}: take fewer by --top"
         raise Failure(why)
     return (table.select(entries) for table, entries in chosen)
 
@@ -128,7 +128,7 @@ def by_bytes(key):
 
 def whole(digits):
     """A number of JSON. None of an answer has so many digits that Python takes long."""
-    if len(digits) > MOST_DIGITS:
+    if len(digits) > MAX_DIGITS:
         raise ValueError("a number of too many digits")
     return int(digits)
 
@@ -168,7 +168,7 @@ def recode(data):
 
 def key_of(value):
     """A key: whole numbers and texts."""
-    if not isinstance(value, list) or len(value) > MOST_KEYS:
+    if not isinstance(value, list) or len(value) > MAX_KEYS:
         raise Wrong("it has no key")
     return tuple(map(part_of, value))
 
@@ -233,7 +233,7 @@ def counts_of(pairs, buckets):
         place = place_of(label)
         if place is None or place <= before:
             raise Wrong(f"its histogram has no bucket {label} in this place")
-        if type(count) is not int or not 0 < count <= MOST_COUNT:
+        if type(count) is not int or not 0 < count <= MAX_COUNT:
             raise Wrong("its value is none of its function")
         counts[place], before = count, place
     return counts
@@ -250,7 +250,7 @@ class Reader:
 
     def line(self, line):
         """Takes a line. Returns the answer that it ends, if it ends one."""
-        if len(line) == MOST_OF_A_LINE:
+        if len(line) == MAX_OF_A_LINE:
             raise Wrong("it is longer than a line of dreplay-data can be")
         if self.answer is None:
             self.begin(line)
@@ -303,7 +303,7 @@ class Reader:
     def table(self, found, function, key, buckets):
         """The table that an entry belongs to; its first entry makes it."""
         place, title = found.get("aggregation"), found.get("name")
-        if not is_whole(place, (0, MOST_AGGREGATIONS)):
+        if not is_whole(place, (0, MAX_AGGREGATIONS)):
             raise Wrong("it has no place of an aggregation")
         kind = place, title, function, tuple([isinstance(part, str) for part in key]), buckets
         table = self.answer.tables.get(place)
@@ -347,7 +347,7 @@ def range_of(aggregation):
 def read(lines, name, script=None):
     """The answers that an input holds one after the other. A script names the columns."""
     reader, number = Reader(script), 0
-    for number, line in enumerate(iter(lambda: lines.readline(MOST_OF_A_LINE), b""), 1):
+    for number, line in enumerate(iter(lambda: lines.readline(MAX_OF_A_LINE), b""), 1):
         try:
             answer = reader.line(line)
         except Wrong as why:

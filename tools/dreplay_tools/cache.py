@@ -12,8 +12,8 @@ import tempfile
 
 from .version import VERSION
 
-MOST_BYTES = 4 << 30  # of all traces that are kept
-MOST_SAID = 100  # lines of a converter that a note has
+MAX_BYTES = 4 << 30  # of all traces that are kept
+MAX_SAID = 100  # lines of a converter that a note has
 
 
 def folder():
@@ -74,7 +74,7 @@ class Place:
 
     def keep(self, part, said, status):
         """Makes the part the trace."""
-        note = {"said": said[:MOST_SAID], "status": status, "bytes": os.path.getsize(part)}
+        note = {"said": said[:MAX_SAID], "status": status, "bytes": os.path.getsize(part)}
         os.replace(part, self.trace)
         with open(part, "w", encoding="utf-8", errors="surrogateescape") as file:
             json.dump(note, file)
@@ -91,7 +91,7 @@ def make_room(where, newest):
                 found.append((entry.stat().st_mtime_ns, entry.stat().st_size, entry.path))
                 total += entry.stat().st_size
     for _, size, path in sorted(found):
-        if total <= MOST_BYTES or path == newest:
+        if total <= MAX_BYTES or path == newest:
             return
         for gone in (path, path[: -len(".csv")] + ".json"):
             with contextlib.suppress(FileNotFoundError):

@@ -8,12 +8,12 @@ from decimal import Decimal, InvalidOperation
 
 from .ends import Failure
 from .fields import BadEvent
-from .trace import ARGS, MOST_NUMBER, MOST_TIME, to_signed
+from .trace import ARGS, MAX_NUMBER, MAX_TIME, to_signed
 from .tracepoints import Event, Probe
 
 NOTHING_CONVERTED = 3
-MOST_BYTES = 1 << 30
-MOST_DIGITS = 40
+MAX_BYTES = 1 << 30
+MAX_DIGITS = 40
 BEGINS, ENDS, WHOLE, INSTANTS = "B", "E", "X", ("i", "I", "n", "R")
 FIRST_OF_OTHERS = 1_000_000_001  # of threads whose own number is of another process's too
 ARGUMENT = re.compile(r"arg(\d)")
@@ -22,13 +22,13 @@ OTHER = "events of other kinds (counters, flows, asynchronous ones) are left out
 
 
 def whole(digits):
-    if len(digits) > MOST_DIGITS:
+    if len(digits) > MAX_DIGITS:
         raise ValueError("a number of too many digits")
     return int(digits)
 
 
 def decimal(digits):
-    if len(digits) > MOST_DIGITS:
+    if len(digits) > MAX_DIGITS:
         raise ValueError("a number of too many digits")
     return Decimal(digits)
 
@@ -40,8 +40,8 @@ def events_in(file):
     """The list of events that a file holds: alone, or as a member of an object. The end of a list
     may be missing, as where a program was ended.
     """
-    data = file.read(MOST_BYTES + 1)
-    if len(data) > MOST_BYTES:
+    data = file.read(MAX_BYTES + 1)
+    if len(data) > MAX_BYTES:
         raise Failure("nothing was converted: it has more than 1 GiB", NOTHING_CONVERTED)
     text = data.decode("utf-8", "replace").strip()
     for end in ("", "]", "}]"):
@@ -149,7 +149,7 @@ class Reader:
         elif kind in (ENDS, WHOLE):
             begun = self.open[thread].pop() if self.open.get(thread) else (name, group)
             name, group = name or begun[0], group or begun[1]
-        process = thread[0] if type(thread[0]) is int and 0 <= thread[0] <= MOST_NUMBER else 0
+        process = thread[0] if type(thread[0]) is int and 0 <= thread[0] <= MAX_NUMBER else 0
         probe = probe_of(kind, name, group, None if kind == WHOLE else args)
         number = self.threads.number(*thread)
         named = named or self.threads.name(self.threads.first, *thread) or "unknown"
@@ -172,7 +172,7 @@ def nanoseconds(value):
             value = decimal(value)
         except (InvalidOperation, ValueError):
             value = None
-    if type(value) not in (int, Decimal) or not 0 <= value <= MOST_TIME // 1000:
+    if type(value) not in (int, Decimal) or not 0 <= value <= MAX_TIME // 1000:
         raise BadEvent("its time is no number of microseconds from 0 up")
     return int(value * 1000)
 

@@ -14,7 +14,7 @@ from .script import Script
 from .tokens import decode
 
 REACHED, TRUE = "dreplay_reached_", "dreplay_true_"
-MOST_SHOWN = 60  # letters of a clause's descriptions
+MAX_SHOWN = 60  # letters of a clause's descriptions
 
 
 def add_counts(data):
@@ -49,7 +49,7 @@ def lines(data, trace, program):
             str(clause.descriptions[0].line),
             f"{counts.get(f'@{REACHED}{place}', 0):,}",
             f"{counts.get(f'@{TRUE}{place}', 0):,}" if clause.predicate else "",
-            probes if len(probes) <= MOST_SHOWN else probes[:MOST_SHOWN] + "..",
+            probes if len(probes) <= MAX_SHOWN else probes[:MAX_SHOWN] + "..",
         ]
         for column, cell in zip(columns, row):
             column.append(cell)

@@ -6,7 +6,7 @@ import sys
 from .ends import FAILED, shorten
 from .version import VERSION
 
-MOST_SAID = 300
+MAX_SAID = 300
 
 
 class CommandLine(argparse.ArgumentParser):
@@ -46,7 +46,7 @@ class CommandLine(argparse.ArgumentParser):
     def error(self, message):
         # Releases of Python differ in whether they quote the choices of an option.
         plain = re.sub(r"\(choose from .*\)", lambda found: found[0].replace("'", ""), message)
-        said = shorten(plain, MOST_SAID)
+        said = shorten(plain, MAX_SAID)
         self.exit(FAILED, f"{self.prog}: {said} ({self.prog} --help)\n")
 
 

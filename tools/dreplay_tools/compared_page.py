@@ -6,8 +6,8 @@ from html import escape
 from .comparison import count_of, table
 from .ends import say_count
 from .labels import SHARE, interval, name, printable, show_number
-from .pictures import MOST_CHARTS, and_more
-from .webpage import MOST_ROWS, Bars, cell
+from .pictures import MAX_CHARTS, and_more
+from .webpage import MAX_ROWS, Bars, cell
 
 STYLE = """
 :root { --before: #8c959f; } @media (prefers-color-scheme: dark) { :root { --before: #6e7681; } }
@@ -33,13 +33,13 @@ def section(shown, args):
         if args.percentiles:
             yield from data_table(*table(shown, args), shown, None)
         yield '<div class="cards">'
-        for change in shown.entries[:MOST_CHARTS]:
+        for change in shown.entries[:MAX_CHARTS]:
             yield from card(change, args)
         yield "</div>"
-        if len(shown.entries) > MOST_CHARTS:
-            yield f"<p>{and_more(len(shown.entries) - MOST_CHARTS, 'histograms')}</p>"
+        if len(shown.entries) > MAX_CHARTS:
+            yield f"<p>{and_more(len(shown.entries) - MAX_CHARTS, 'histograms')}</p>"
     else:
-        pairs = [(change.before or 0, change.after or 0) for change in shown.entries[:MOST_ROWS]]
+        pairs = [(change.before or 0, change.after or 0) for change in shown.entries[:MAX_ROWS]]
         yield from data_table(*table(shown, args), shown, pairs)
     yield "</section>"
 
@@ -56,14 +56,14 @@ def data_table(names, rows, shown, pairs):
         )
     yield ("<th class=bars></th>" if pairs else "") + "</tr></thead><tbody>"
     bars = Bars([value for pair in pairs or [] for value in pair])
-    for place, row in enumerate(rows[:MOST_ROWS]):
+    for place, row in enumerate(rows[:MAX_ROWS]):
         cells = [cell(value, not is_text) for value, is_text in zip(row, texts)]
         if pairs:
             cells.append(f'<td class="bars pair">{two(bars, *pairs[place])}</td>')
         yield f"<tr>{''.join(cells)}</tr>"
     yield "</tbody></table></div>"
-    if len(rows) > MOST_ROWS:
-        yield f"<p>{and_more(len(rows) - MOST_ROWS, 'rows')}</p>"
+    if len(rows) > MAX_ROWS:
+        yield f"<p>{and_more(len(rows) - MAX_ROWS, 'rows')}</p>"
 
 
 def two(bars, before, after):

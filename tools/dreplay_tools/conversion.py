@@ -11,7 +11,7 @@ from .patterns import Names
 from .pieces import Pieces
 from .processes import Processes
 from .strace import SYMBOL, BadLine, Call, CutOff
-from .trace import MOST_TIME, Rows, field, text
+from .trace import MAX_TIME, Rows, field, text
 
 BETWEEN_PROGRESS = 65536
 
@@ -227,7 +227,7 @@ class Conversion:
             self.take(line)
             return
         back = call.time + (took or 0)
-        if back > MOST_TIME:
+        if back > MAX_TIME:
             self.take(line)
             return
         self.understood += 1
@@ -423,7 +423,7 @@ def first_time(recording, shape):
 
 
 def check_time(time):
-    if not 0 <= time <= MOST_TIME:
+    if not 0 <= time <= MAX_TIME:
         raise BadLine(
             "its time is too large"
             if time > 0

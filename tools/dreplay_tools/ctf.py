@@ -27,7 +27,7 @@ THREAD, PROCESS, NAME = ("perf_tid", "vtid", "tid"), ("perf_pid", "vpid", "pid")
 # What LTTng calls fields that the kernel's own events have by other names.
 RENAMED = {"prev_tid": "prev_pid", "next_tid": "next_pid"}
 DISCARDED = re.compile(r"racer (?:may have )?discarded (?:(\d{1,15}) )?events?", re.ASCII)
-MOST_SAID = 1 << 20
+MAX_SAID = 1 << 20
 NO_THREAD = "it has no thread: lttng add-context -k -t tid -t pid -t procname (-u -t vtid -t vpid)"
 
 
@@ -129,7 +129,7 @@ def run_babeltrace(folder):
     words = ["babeltrace2", "--clock-seconds", os.path.join(".", folder)]
     status = subprocess.call(words, stdin=subprocess.DEVNULL, stdout=out, stderr=said)
     said.seek(0)
-    why = said.read(MOST_SAID).decode("utf-8", "replace").splitlines()
+    why = said.read(MAX_SAID).decode("utf-8", "replace").splitlines()
     if status:
         last = next((line for line in reversed(why) if line.strip()), "no reason")
         raise Failure(

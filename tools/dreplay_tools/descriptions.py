@@ -21,13 +21,13 @@ OF_DTRACE = {
     "sched:wakeup": "sched::sched_wakeup*:tracepoint",
     "sched:sleep": "sched:::off-cpu",
 }
-MOST_LETTERS = 100  # of a description that is translated
+MAX_LETTERS = 100  # of a description that is translated
 OF_A_PROCESS = re.compile(r"pid(?:\d+|\$\w+)((?::[^:]*){3})")
 
 
 def translate(text):
     """The description that a trace has for one of another tool; none where that isn't known."""
-    if len(text) > MOST_LETTERS:
+    if len(text) > MAX_LETTERS:
         return None
     kind, _, rest = text.partition(":")
     fields = rest.split(":")

@@ -8,7 +8,7 @@ import signal
 import sys
 import warnings
 
-MOST_SAID, MOST_OF_A_NAME = 1000, 800  # bytes of a message, and of a file's name in it
+MAX_SAID, MAX_OF_A_NAME = 1000, 800  # bytes of a message, and of a file's name in it
 FAILED = 2  # a file or standard stream fails, memory runs out, or the command line is wrong
 INTERRUPTED = 128 + signal.SIGINT
 
@@ -33,7 +33,7 @@ def say_count(count, one, several):
 def reason(error):
     """An error of the system in words, with the file that it is about."""
     words = error.strerror or str(error) or type(error).__name__
-    return f"{shorten(str(error.filename), MOST_OF_A_NAME)}: {words}" if error.filename else words
+    return f"{shorten(str(error.filename), MAX_OF_A_NAME)}: {words}" if error.filename else words
 
 
 def standard_input():
@@ -78,7 +78,7 @@ class Tool:
         """Writes a line to standard error. Where that is closed, nobody wants to read it."""
         try:
             self.erase_progress()
-            print(shorten(f"{self.name}: {what}", MOST_SAID), file=sys.stderr, flush=True)
+            print(shorten(f"{self.name}: {what}", MAX_SAID), file=sys.stderr, flush=True)
         except (OSError, ValueError, AttributeError):
             pass
 

@@ -5,14 +5,14 @@ import os
 
 from .ends import say_count, shorten
 from .fields import BadEvent
-from .trace import ARGS, MOST_NUMBER, MOST_TIME, Rows, field, text
+from .trace import ARGS, MAX_NUMBER, MAX_TIME, Rows, field, text
 from .tracepoints import Lost, switches
 
-MOST_NAMED = 10
+MAX_NAMED = 10
 BETWEEN_PROGRESS = 65536
 RESERVED = "dtrace"  # a provider that no row may have
 NOTHING_CONVERTED, SOME_SKIPPED = 3, 1
-MOST_LEFT_TWICE = 0.02  # of all the times that threads leave their processor
+MAX_LEFT_TWICE = 0.02  # of all the times that threads leave their processor
 
 
 class Losses:
@@ -55,7 +55,7 @@ class Switches:
     @property
     def are_missing(self):
         """Whether more are missing than what is lost at the ends of a recording."""
-        return self.left_twice > self.left * MOST_LEFT_TWICE
+        return self.left_twice > self.left * MAX_LEFT_TWICE
 
 
 class Events:
@@ -102,7 +102,7 @@ class Events:
                         self.add(switch, place)
         except BadEvent as why:
             self.skipped += 1
-            if self.skipped <= MOST_NAMED:
+            if self.skipped <= MAX_NAMED:
                 self.tool.say(f"{self.what} {place} skipped: {why}")
         if place % BETWEEN_PROGRESS == 0:
             self.tool.progress(f"{place:,} {self.what}s, {self.rows.number:,} rows")
@@ -112,7 +112,7 @@ class Events:
         if event.thread == 0:
             event = idle(event)
         time, process = self.time(event), self.process(event)
-        if not (0 < event.thread <= MOST_NUMBER and 0 <= event.cpu <= MOST_NUMBER):
+        if not (0 < event.thread <= MAX_NUMBER and 0 <= event.cpu <= MAX_NUMBER):
             raise BadEvent("the number of its thread, process or processor is out of range")
         probe = event.probe
         if probe.provider == RESERVED:
@@ -132,7 +132,7 @@ class Events:
         if self.zero is None:
             self.zero = event.time
         time = event.time - self.zero
-        if not 0 <= time <= MOST_TIME:
+        if not 0 <= time <= MAX_TIME:
             raise BadEvent(
                 "its time is too large"
                 if time > 0
@@ -145,7 +145,7 @@ class Events:
         counts as one.
         """
         if event.process is not None:
-            if not 0 <= event.process <= MOST_NUMBER:
+            if not 0 <= event.process <= MAX_NUMBER:
                 raise BadEvent("the number of its thread, process or processor is out of range")
             self.process_of[event.thread] = event.process
             return event.process
@@ -159,7 +159,7 @@ class Events:
         """Writes what is left, and says what a reader of the trace should know. Returns the exit
         status.
         """
-        if self.skipped > MOST_NAMED:
+        if self.skipped > MAX_NAMED:
             self.tool.say(f"{self.skipped} {self.what}s skipped in all")
         if not self.rows.number:
             self.tool.say(f"nothing was converted: {nothing}")
@@ -196,7 +196,7 @@ def idle(event):
     a thread of the processor's own.
     """
     return dataclasses.replace(
-        event, name=f"swapper/{event.cpu}", thread=MOST_NUMBER - event.cpu, process=0
+        event, name=f"swapper/{event.cpu}", thread=MAX_NUMBER - event.cpu, process=0
     )
 
 

@@ -8,11 +8,11 @@ from dataclasses import dataclass
 
 from . import ends, guesses, labels, places, probes, refusals
 from .script import Script
-from .tokens import MOST_BYTES, decode, tokens
+from .tokens import MAX_BYTES, decode, tokens
 from .trace import COLUMNS
 
 NEIGHBOURS = 2  # lines shown before and after the one that is refused
-MOST_SHOWN = 200  # bytes shown of a line or field
+MAX_SHOWN = 200  # bytes shown of a line or field
 
 
 @dataclass
@@ -31,7 +31,7 @@ def escape(letter):
 
 def shorten(text):
     """A line or field fit for a terminal: its start, without control bytes."""
-    return ends.shorten(text, MOST_SHOWN, escape)
+    return ends.shorten(text, MAX_SHOWN, escape)
 
 
 def lines(line, refusal, place, given):
@@ -82,7 +82,7 @@ def place_in_script(refusal, place, data):
 
 def refused_token(refusal, place, data):
     """The refused token, whose place among all it notes; none where that can't be told."""
-    if len(data) > MOST_BYTES or guesses.of_encoding(data):
+    if len(data) > MAX_BYTES or guesses.of_encoding(data):
         return None
     all_tokens = tokens(decode(data))
     at = places.refused_token(refusal, place["line"], all_tokens)
@@ -108,7 +108,7 @@ def with_mark(script_lines, at, number, token):
     if not token or at != token.line:
         return
     before = "".join(map(escape, text[: token.column - 1]))
-    if len(before.encode("utf-8")) < MOST_SHOWN:
+    if len(before.encode("utf-8")) < MAX_SHOWN:
         blank = "".join(c if c == "\t" else " " * labels.width(c) for c in before)
         word = shorten(token.text.split("\n")[0])
         yield f"       | {blank}{'^' * max(1, labels.width(word))}"
@@ -185,7 +185,7 @@ def order_guess(before, after):
 
 def find_unmatched(given):
     """For each description of the script that matches no row a line."""
-    if len(given.script) > MOST_BYTES:
+    if len(given.script) > MAX_BYTES:
         return []
     try:
         return list(

@@ -3,7 +3,7 @@ import re
 
 from .guesses import records
 from .script import Script
-from .tokens import MOST_BYTES, decode
+from .tokens import MAX_BYTES, decode
 
 FAULT = re.compile(rb"error: firing (\d{1,20}) clause (\d{1,20}): divide-by-zero\r?\n?")
 CAUSE = (
@@ -37,7 +37,7 @@ class Faults:
 
 def places(firing, clause, given):
     """Where a fault arose: the clause's line, and the row of the firing."""
-    if given.script is not None and len(given.script) <= MOST_BYTES:
+    if given.script is not None and len(given.script) <= MAX_BYTES:
         clauses = Script(decode(given.script)).clauses
         if 1 <= clause <= len(clauses) and clauses[clause - 1].descriptions:
             yield f"line {clauses[clause - 1].descriptions[0].line} of the script"

@@ -18,7 +18,7 @@ from . import strace
 from .ahead import thread_of
 from .errors import RETURNED
 from .strace import SYMBOL
-from .trace import ARGS, MOST_TIME
+from .trace import ARGS, MAX_TIME
 
 RESULT = (
     r"\) += (0|-?[1-9]\d{0,17}|0x[0-9a-f]{1,15})(?: (E[A-Z0-9_]+) \([^()]*\))?"
@@ -29,8 +29,8 @@ EVENT = (
     rf"(.*)(?:{RESULT}|(<unfinished \.\.\.>))\n"
 )
 TEXT_CONSTANT = re.compile(r'"(?:[^"\\]|\\.)*(?:"|\\?$)')
-MOST_KNOWN = 100_000  # texts that are remembered
-MOST_NESTED = 8  # brackets in brackets, of an argument list that is read in the quick way
+MAX_KNOWN = 100_000  # texts that are remembered
+MAX_NESTED = 8  # brackets in brackets, of an argument list that is read in the quick way
 INNERMOST = re.compile(r"[(\[{][^()\[\]{}]*[)\]}]")
 SPECIAL = strace.BIRTHS | set(strace.PROGRAMS)
 COMMAS = ["," * (ARGS - max(count, 1)) for count in range(ARGS + 1)]
@@ -42,7 +42,7 @@ class Arguments(dict):
     """The fields of arguments as they are shown, worked out once and remembered for a while."""
 
     def __missing__(self, shown):
-        if len(self) > MOST_KNOWN:
+        if len(self) > MAX_KNOWN:
             self.clear()
         value = self[shown] = strace.argument(shown)
         return value
@@ -52,7 +52,7 @@ class Arguments(dict):
         plain = shown
         if '"' in plain:
             plain = TEXT_CONSTANT.sub("_", plain)
-        for _ in range(MOST_NESTED):
+        for _ in range(MAX_NESTED):
             if not ("{" in plain or "[" in plain or "(" in plain):
                 break
             plain, changes = INNERMOST.subn("_", plain)
@@ -78,7 +78,7 @@ class Lists(dict):
         self.columns = Arguments().columns
 
     def __missing__(self, shown):
-        if len(self) > MOST_KNOWN:
+        if len(self) > MAX_KNOWN:
             self.clear()
         value = self[shown] = self.columns(shown)
         return value
@@ -90,7 +90,7 @@ class Returned(dict):
     """
 
     def __missing__(self, result_and_error):
-        if len(self) > MOST_KNOWN:
+        if len(self) > MAX_KNOWN:
             self.clear()
         result, error = result_and_error
         number = RETURNED.get(error)
@@ -161,7 +161,7 @@ class Reader:
     def whole(self, thread, name, shown, values, time, took):
         """A call on one line; none where its line has to be read otherwise."""
         back = time if took is None else time + took
-        if time < 0 or back > MOST_TIME or " resumed>" in shown:  # another line begins in it
+        if time < 0 or back > MAX_TIME or " resumed>" in shown:  # another line begins in it
             return None
         if took is None:
             self.undated += 1
@@ -183,7 +183,7 @@ class Reader:
 
     def begin(self, thread, name, shown, time):
         """A call that begins; none where its line has to be read otherwise."""
-        if name is None or not 0 <= time <= MOST_TIME:
+        if name is None or not 0 <= time <= MAX_TIME:
             return None
         shown = shown[:-1] if shown.endswith(" ") else shown
         self.add(thread, (name, shown, time))
@@ -196,7 +196,7 @@ class Reader:
         rows, place, is_first = self.opened.pop(thread, NOTHING_BEGUN)
         begun, first, time = rows[place]
         back = time + (took or 0)
-        if begun != name or back > MOST_TIME:
+        if begun != name or back > MAX_TIME:
             self.ended.pop(thread, None)
             return False
         self.undated += took is None

@@ -19,7 +19,7 @@ KNOWN = (
     | set(mistakes.TYPES)
     | {"self", "this"}
 )
-MOST_TOKENS = 100  # of a line that are looked at
+MAX_TOKENS = 100  # of a line that are looked at
 
 RANGES = {
     "number": (1, 2**62),
@@ -151,8 +151,8 @@ def looked_at(tokens, line, at):
     """
     there = [place for place, token in enumerate(tokens) if line is None or token.line == line]
     if at is None:
-        return there[:MOST_TOKENS]
-    near = sorted(sorted(there, key=lambda place: abs(place - at))[:MOST_TOKENS])
+        return there[:MAX_TOKENS]
+    near = sorted(sorted(there, key=lambda place: abs(place - at))[:MAX_TOKENS])
     return sorted(near, key=lambda place: not at <= place < at + 3)
 
 

@@ -11,7 +11,7 @@ from .held import Bucket
 from .labels import cut, interval, show_number
 from .pictures import and_more, picture, points, text_at
 
-MOST_COLUMNS, MOST_ROWS, MOST_BUCKETS = 60, 60, 64
+MAX_COLUMNS, MAX_ROWS, MAX_BUCKETS = 60, 60, 64
 WIDEST_ROW, WIDEST_COLUMN = 30, 24  # of labels
 CELL, GAP, HIGH = 22, 1, 18
 
@@ -91,12 +91,12 @@ def columns_of(shown, args):
     entries = sorted(shown.entries, key=lambda entry: sortable(entry[0]))
     if len(keys) == 1:
         ones = [key[0] for key, _ in entries]
-        few = are_numbers(ones) and not args.top and ones[-1] - ones[0] < MOST_COLUMNS
+        few = are_numbers(ones) and not args.top and ones[-1] - ones[0] < MAX_COLUMNS
         if few or is_scale(ones, keys[0], args):
-            return scale(ones, MOST_COLUMNS), [(key[0], rows) for key, rows in entries]
+            return scale(ones, MAX_COLUMNS), [(key[0], rows) for key, rows in entries]
     histograms = [(tuple(key), rows) for key, rows in entries]
     sizes = {key: sum(row.count for row in rows) for key, rows in histograms}
-    return axis_of_names(list(sizes), sizes.get, MOST_COLUMNS), histograms
+    return axis_of_names(list(sizes), sizes.get, MAX_COLUMNS), histograms
 
 
 def rows_of(there, buckets):
@@ -107,7 +107,7 @@ def rows_of(there, buckets):
     lowest, highest = min(there), max(there)
     every = [buckets.bucket(place, 0) for place in range(first, last + 1)]
     every = [bucket for bucket in every if lowest <= bounds(bucket) <= highest]
-    joined = -(-len(every) // MOST_BUCKETS)
+    joined = -(-len(every) // MAX_BUCKETS)
     groups = [every[start : start + joined] for start in range(0, len(every), joined)][::-1]
     places = {bounds(bucket): place for place, group in enumerate(groups) for bucket in group}
     return Axis([Bucket(group[0].low, group[-1].high, 0) for group in groups], places, 0)
@@ -137,7 +137,7 @@ def axis_of_part(shown, place, args):
     sizes = {}
     for keys, value in shown.entries:
         sizes[keys[place]] = sizes.get(keys[place], 0) + value
-    keys, most = sorted(sizes, key=one_sortable), MOST_COLUMNS if place else MOST_ROWS
+    keys, most = sorted(sizes, key=one_sortable), MAX_COLUMNS if place else MAX_ROWS
     on_a_scale = is_scale(keys, shown.aggregation.keys[place], args)
     if on_a_scale and (shown.aggregation.function in JOINED or keys[-1] - keys[0] < most):
         return scale(keys, most)

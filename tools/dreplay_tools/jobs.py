@@ -14,7 +14,7 @@ from .inputs import open_input
 from .output import Replaced
 
 PLAN = ["-w", "1", "-g", "1"]  # as many programs run as there are processors, so each is one thread
-MOST_NAME = 100
+MAX_NAME = 100
 ANSWER = re.compile(r"(.*)-[0-9a-f]{12}\.answer", re.DOTALL)
 REFUSED = "dreplay: trace refused: "
 
@@ -25,7 +25,7 @@ class Job:
     def __init__(self, trace, folder, command):
         self.trace, self.command = trace, command
         whole = os.path.abspath(trace).encode("utf-8", "surrogateescape")
-        name = f"{os.path.basename(trace)[:MOST_NAME]}-{hashlib.sha256(whole).hexdigest()[:12]}"
+        name = f"{os.path.basename(trace)[:MAX_NAME]}-{hashlib.sha256(whole).hexdigest()[:12]}"
         self.answer = os.path.join(folder, name + ".answer")
         self.note = os.path.join(folder, name + ".json")
         self.status, self.line, self.is_answered = None, "", False

@@ -37,8 +37,8 @@ CONTROLS = {
 }
 NOT_RECORDED = "cwd root epid id ipl lgrp pset chip uid gid username cgroup uregs reg zonename jid"
 MACROS = "target pid ppid uid gid euid egid pgid sid projid taskid".split()
-MOST_SHOWN = 60  # letters of a token in a guess
-MOST_JOINED = 20  # tokens without a blank between them, and blocks, that are looked at
+MAX_SHOWN = 60  # letters of a token in a guess
+MAX_JOINED = 20  # tokens without a blank between them, and blocks, that are looked at
 WORDS = {
     "comm": "`comm` is bpftrace's; in D it is `execname`",
     "nsecs": "`nsecs` is bpftrace's; in D it is `timestamp`",
@@ -202,7 +202,7 @@ def dollar(near):
         return '`$` is of awk: "From awk" in docs/COMING_FROM.md says what to write here'
     if near.text(-1) == "pid" and near.token.place == HEAD:
         return None  # the description is translated
-    if near.kind(1) == "word" and name not in MACROS and len(name) <= MOST_SHOWN:
+    if near.kind(1) == "word" and name not in MACROS and len(name) <= MAX_SHOWN:
         return f"`${name}` is bpftrace's; in D it is `this->{name}`"
     return "there are no macro arguments: write the value itself" if near.kind(1) else None
 
@@ -261,7 +261,7 @@ def find_description(near):
     while near.is_near(end - near.at) and near.tokens[end].text not in ("{", ","):
         text += near.tokens[end].text
         end += 1
-        if end > near.at + MOST_JOINED:
+        if end > near.at + MAX_JOINED:
             break
     return text
 
@@ -443,7 +443,7 @@ def of_place(script, at):
     near = Near(script.tokens, at)
     before = near.text(-1)
     if near.kind(0) == "run" and at == len(script.tokens) - 1:
-        shown = near.text(0) if len(near.text(0)) <= MOST_SHOWN else "provider:::name"
+        shown = near.text(0) if len(near.text(0)) <= MAX_SHOWN else "provider:::name"
         yield f"a clause has a body: `{shown} {{ @[probefunc] = count(); }}`"
     elif near.token.place == PREDICATE and near.text(0) == "{" and not script.tokens[at - 1].closes:
         yield "the slash that ends the predicate is missing: `/ condition / {`"
@@ -485,7 +485,7 @@ def open_blocks(tokens):
                 blocks.clear()
             else:
                 blocks.append(place)
-    return blocks[-MOST_JOINED:] if depth else []
+    return blocks[-MAX_JOINED:] if depth else []
 
 
 def leader(tokens, at):

@@ -2,7 +2,7 @@
 import argparse
 import re
 
-MOST_PARTS, MOST_JOBS = 1000, 64
+MAX_PARTS, MAX_JOBS = 1000, 64
 
 
 def seconds(shown):
@@ -22,17 +22,17 @@ def rows(shown):
 
 
 def parts(shown):
-    if not re.fullmatch(r"[1-9]\d{0,3}", shown, re.ASCII) or int(shown) > MOST_PARTS:
+    if not re.fullmatch(r"[1-9]\d{0,3}", shown, re.ASCII) or int(shown) > MAX_PARTS:
         raise argparse.ArgumentTypeError(
-            f"{quote(shown)} is no number of parts from 1 to {MOST_PARTS}"
+            f"{quote(shown)} is no number of parts from 1 to {MAX_PARTS}"
         )
     return int(shown)
 
 
 def jobs(shown):
-    if not re.fullmatch(r"[1-9]\d?", shown, re.ASCII) or int(shown) > MOST_JOBS:
+    if not re.fullmatch(r"[1-9]\d?", shown, re.ASCII) or int(shown) > MAX_JOBS:
         raise argparse.ArgumentTypeError(
-            f"{quote(shown)} is no number of processes from 1 to {MOST_JOBS}"
+            f"{quote(shown)} is no number of processes from 1 to {MAX_JOBS}"
         )
     return int(shown)
 

@@ -14,8 +14,8 @@ from .version import VERSION
 
 TIME = COLUMNS.index("time")
 SINCE_1970 = 10**18  # nanoseconds; a time from there on is a date, and below it one of a machine
-MOST_OF_THE_END = 1 << 16  # bytes in which the last row is looked for
-MOST_NAMED = 20
+MAX_OF_THE_END = 1 << 16  # bytes in which the last row is looked for
+MAX_NAMED = 20
 
 
 @dataclass
@@ -32,7 +32,7 @@ class Origin:
         """Names and values for a reader."""
         if self.script:
             yield "Script", self.script
-        names = self.recordings[:MOST_NAMED]
+        names = self.recordings[:MAX_NAMED]
         more = len(self.recordings) - len(names)
         if names:
             yield "Of", ", ".join(names) + (f" and {more:,} more" if more else "")
@@ -79,10 +79,10 @@ def span(traces):
 def ends(path):
     """The times of a trace's first row and its last."""
     file = open_input(path)
-    file.readline(MOST_OF_THE_END)
-    first = file.readline(MOST_OF_THE_END)
+    file.readline(MAX_OF_THE_END)
+    first = file.readline(MAX_OF_THE_END)
     size = file.seek(0, os.SEEK_END)
-    file.seek(max(0, size - MOST_OF_THE_END))
+    file.seek(max(0, size - MAX_OF_THE_END))
     last = (file.read().splitlines() or [b""])[-1]
     for line in (first, last):
         row = next(csv.reader(io.StringIO(line.decode("latin-1"))), [])

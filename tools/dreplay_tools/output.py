@@ -7,13 +7,13 @@ import sys
 import tempfile
 
 from .ends import Failure
-from .trace import HEADER, MOST_ROWS
+from .trace import HEADER, MAX_ROWS
 
 
 UMASK = os.umask(0)
 os.umask(UMASK)
 COPIED = 1 << 20  # bytes of a trace at a time
-MOST_OF_A_NAME = 50  # letters of a file's name in that of an unfinished one
+MAX_OF_A_NAME = 50  # letters of a file's name in that of an unfinished one
 
 
 def is_regular(path):
@@ -40,7 +40,7 @@ class Replaced:
     def open_file(self):
         """A new file beside the one that it will replace, which no other run has."""
         folder, name = os.path.split(self.path)
-        number, self.part = tempfile.mkstemp(".part", f"{name[:MOST_OF_A_NAME]}.", folder)
+        number, self.part = tempfile.mkstemp(".part", f"{name[:MAX_OF_A_NAME]}.", folder)
         try:
             replaced = os.stat(self.path)
         except FileNotFoundError:
@@ -194,16 +194,16 @@ class Output:
     def warnings(self):
         """What dreplay would refuse of it, and what to do."""
         for part in self.parts:
-            if part.rows > MOST_ROWS:
+            if part.rows > MAX_ROWS:
                 yield self.too_many(part)
 
     def too_many(self, part):
         has = (
-            f"{part.path or 'the trace'} has {part.rows:,} rows, and dreplay takes {MOST_ROWS:,}: "
+            f"{part.path or 'the trace'} has {part.rows:,} rows, and dreplay takes {MAX_ROWS:,}: "
         )
         if len(self.parts) == 1:
             return (
-                has + f"-o FILE --split {part.rows // MOST_ROWS + 2} cuts it by thread, "
+                has + f"-o FILE --split {part.rows // MAX_ROWS + 2} cuts it by thread, "
                 "which loses nothing"
             )
         return has + "a larger number for --split, or a part of the recording"

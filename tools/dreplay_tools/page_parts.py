@@ -3,7 +3,7 @@
 """
 import math
 
-FEWEST_TO_FILTER = 10  # rows
+MIN_TO_FILTER = 10  # rows
 FIRST = 50  # rows that are shown at first
 SWATCHES = 5
 
@@ -27,7 +27,7 @@ footer dd { margin: 0; overflow-wrap: anywhere; }
 SCRIPT = f"""
 for (const table of document.querySelectorAll("table.data")) {{
   const body = table.tBodies[0], many = body.rows.length;
-  if (many <= {FEWEST_TO_FILTER}) continue;
+  if (many <= {MIN_TO_FILTER}) continue;
   const bar = document.createElement("div"), box = document.createElement("input");
   const said = document.createElement("span"), more = document.createElement("button");
   let all = many <= {FIRST};

@@ -7,14 +7,14 @@ import re
 from .labels import interval
 
 PERCENT = re.compile(r"(\d{1,2}|100)(?:\.(\d{1,6}))?", re.ASCII)
-MOST_PERCENTS = 20
+MAX_PERCENTS = 20
 
 
 def percents(shown):
     """Percents, separated by commas, as they are written."""
     found = shown.split(",")
-    if len(found) > MOST_PERCENTS:
-        raise argparse.ArgumentTypeError(f"these are more than {MOST_PERCENTS} percentiles")
+    if len(found) > MAX_PERCENTS:
+        raise argparse.ArgumentTypeError(f"these are more than {MAX_PERCENTS} percentiles")
     for percent in found:
         if not is_percent(percent):
             why = f"{percent[:20]!r} is no percent above 0 and up to 100, such as 50 or 99.9"

@@ -13,11 +13,11 @@ import tempfile
 from .ends import Failure, shorten
 from .fields import BadEvent, integer
 from .tracepoints import Event, Lost, Probe, give_back, place_probe, probe_of, raw_call
-from .trace import MOST_NUMBER, to_signed
+from .trace import MAX_NUMBER, to_signed
 
 NOTHING_CONVERTED = 3
-NUMBERS = range(MOST_NUMBER + 1)  # of threads and processes
-WORDS_OF_A_NAME, MOST_OF_A_RECORD, MOST_OF_A_FORMAT = 64, 100_000, 20_000
+NUMBERS = range(MAX_NUMBER + 1)  # of threads and processes
+WORDS_OF_A_NAME, MAX_OF_A_RECORD, MAX_OF_A_FORMAT = 64, 100_000, 20_000
 THREAD = re.compile(r"(-?\d{1,10})(?:/(-?\d{1,10}))?", re.ASCII)
 CPU = re.compile(r"\[(\d{1,10})\]", re.ASCII)
 TIME = re.compile(r"(\d{1,11})\.(\d{1,9}):", re.ASCII)
@@ -114,7 +114,7 @@ def nanoseconds(found):
 def events_of_record(line, names, signs):
     """The event of a line of recorders/perf.py, which is an object of JSON."""
     try:
-        record = json.loads(line) if len(line) <= MOST_OF_A_RECORD else None
+        record = json.loads(line) if len(line) <= MAX_OF_A_RECORD else None
         if "counter" in record:
             raise BadEvent(
                 f"it is a sample of {shorten(str(record['counter']))}, and no tracepoint"
@@ -196,7 +196,7 @@ def signs_of(file):
     signs, doubtful = {}, set()
     with mmap.mmap(file.fileno(), 0, access=mmap.ACCESS_READ) as whole:
         for found in FORMAT.finditer(whole):
-            text = whole[found.end() : found.end() + MOST_OF_A_FORMAT].partition(b"\nprint fmt")[0]
+            text = whole[found.end() : found.end() + MAX_OF_A_FORMAT].partition(b"\nprint fmt")[0]
             own = {name.decode(): int(size) for name, size in SIGNED_FIELD.findall(text)}
             event = found[1].decode()
             if signs.setdefault(event, own) != own:

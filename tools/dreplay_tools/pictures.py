@@ -9,7 +9,7 @@ from .forms import total_of
 from .labels import SHARE, align, cut, interval, name, pad, show_number, width
 from .percentiles import percentile
 
-MOST_BARS, MOST_BUCKETS, MOST_CHARTS = 40, 1000, 40
+MAX_BARS, MAX_BUCKETS, MAX_CHARTS = 40, 1000, 40
 EIGHTHS = " ▏▎▍▌▋▊▉█"
 WIDTH, ROW, WIDEST_LABEL = 760, 20, 40
 FONT = "font-family=\"'DejaVu Sans', Verdana, sans-serif\""
@@ -63,14 +63,14 @@ def charts(all_shown, args):
             wanted.append((shown,))
     drawn = [
         (histogram if shown.aggregation.is_histogram else bars_of)(shown, *entry, args)
-        for shown, *entry in wanted[:MOST_CHARTS]
+        for shown, *entry in wanted[:MAX_CHARTS]
     ]
     return drawn, len(wanted) - len(drawn)
 
 
 def histogram(shown, keys, rows, args):
     total, found = sum(row.count for row in rows), shown_percentiles(rows, args)
-    rows, more = largest(rows, MOST_BUCKETS, lambda row: row.count)
+    rows, more = largest(rows, MAX_BUCKETS, lambda row: row.count)
     unit = SHARE if args.value_unit == SHARE else None
     what = f"{shown.title} {shown.aggregation.value_name}"
     title = "  ".join(map(name, keys))
@@ -122,10 +122,10 @@ def labelled_bars(shown, args):
     """
     ones = [keys[0] for keys, _ in shown.entries if len(keys) == 1]
     if args.sort == "key" and are_numbers(ones):
-        bars = on_scale(shown.entries, shown.aggregation.function, args, MOST_BARS)
+        bars = on_scale(shown.entries, shown.aggregation.function, args, MAX_BARS)
         if bars is not None:
             return [[label] for label, _ in bars], [value for _, value in bars], 0
-    entries, more = largest(shown.entries, MOST_BARS, lambda entry: abs(entry[1]))
+    entries, more = largest(shown.entries, MAX_BARS, lambda entry: abs(entry[1]))
     labels = [[name(key) for key in keys] or [shown.title] for keys, _ in entries]
     return labels, [value for _, value in entries], more
 

@@ -5,9 +5,9 @@ import marshal
 import os
 
 from .ends import Failure
-from .options import MOST_JOBS
+from .options import MAX_JOBS
 
-MOST_BYTES, LEAST_BYTES = 1 << 18, 1 << 12  # of a piece
+MAX_BYTES, MIN_BYTES = 1 << 18, 1 << 12  # of a piece
 EACH = 8  # pieces of each process at least, as the last ones are waited for
 ALONE = 1 << 22  # bytes of a recording that one process reads by itself
 BLOCK = 1 << 12  # in which the end of a line is sought
@@ -16,7 +16,7 @@ LENGTH = 8  # bytes in front of what a process hands over
 
 
 def processors():
-    return min(len(os.sched_getaffinity(0)), MOST_JOBS)
+    return min(len(os.sched_getaffinity(0)), MAX_JOBS)
 
 
 class Pieces:
@@ -27,7 +27,7 @@ class Pieces:
         self.start = recording.tell()
         size = max(os.fstat(self.recording).st_size - self.start, 1)
         self.jobs = jobs or (processors() if size > ALONE else 1)
-        self.bytes = max(LEAST_BYTES, min(MOST_BYTES, size // (EACH * self.jobs)))
+        self.bytes = max(MIN_BYTES, min(MAX_BYTES, size // (EACH * self.jobs)))
         self.count = -(-size // self.bytes)
 
     def __iter__(self):
@@ -62,7 +62,7 @@ class Pieces:
 
     def between(self, begin, end):
         blocks = []
-        while data := os.pread(self.recording, MOST_BYTES if end is None else end - begin, begin):
+        while data := os.pread(self.recording, MAX_BYTES if end is None else end - begin, begin):
             blocks.append(data)
             begin += len(data)
         return b"".join(blocks)

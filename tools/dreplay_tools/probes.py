@@ -17,11 +17,11 @@ Probe = namedtuple("Probe", "provider module function name")
 FIRST, LAST = COLUMNS.index("provider"), COLUMNS[-1]
 OPTIONS = {"probemod": "--paths", LAST: "--ppid"}  # by which the converter of strace fills it
 OWN = [Probe("dtrace", "", "", "BEGIN"), Probe("dtrace", "", "", "END")]
-MOST_LOOKED_AT = 2_000_000  # comparisons of a description with a probe, or of letters
-MOST_NEAR = 1000  # probes among which the nearest is sought
-MOST_LIKE = 64  # letters of a name that are compared
-MOST_STEPS = 4_000_000  # of comparisons of names for the nearest, as steps_of counts them
-MOST_NAMED, MOST_SHOWN = 10, 200  # descriptions, and bytes of each
+MAX_LOOKED_AT = 2_000_000  # comparisons of a description with a probe, or of letters
+MAX_NEAR = 1000  # probes among which the nearest is sought
+MAX_LIKE = 64  # letters of a name that are compared
+MAX_STEPS = 4_000_000  # of comparisons of names for the nearest, as steps_of counts them
+MAX_NAMED, MAX_SHOWN = 10, 200  # descriptions, and bytes of each
 NEVER = {
     "tick": (
         "timers never fire in a trace: `timestamp / 1000000000` as a key gives an entry for each"
@@ -83,8 +83,8 @@ class Looked:
     """The descriptions of a script beside the probes of a trace."""
 
     def __init__(self, script, probes):
-        self.probes, self.known, self.left = [*OWN, *probes], {}, MOST_LOOKED_AT
-        self.steps, self.script, self.has_last = MOST_STEPS, script, probes.has_last
+        self.probes, self.known, self.left = [*OWN, *probes], {}, MAX_LOOKED_AT
+        self.steps, self.script, self.has_last = MAX_STEPS, script, probes.has_last
         self.names = [set(names) for names in zip(*self.probes)]
         self.wrong, seen = [], set()
         for clause in script.clauses:
@@ -114,13 +114,13 @@ class Looked:
 
     def lines(self):
         """For each description that matches no row a line for a person."""
-        for token in self.wrong[:MOST_NAMED]:
+        for token in self.wrong[:MAX_NAMED]:
             yield (
-                f"line {token.line}: {shorten(token.text, MOST_SHOWN)} matches no row:"
+                f"line {token.line}: {shorten(token.text, MAX_SHOWN)} matches no row:"
                 f" {self.remedy(token)}"
             )
-        if len(self.wrong) > MOST_NAMED:
-            yield f"{len(self.wrong) - MOST_NAMED:,} more descriptions match no row"
+        if len(self.wrong) > MAX_NAMED:
+            yield f"{len(self.wrong) - MAX_NAMED:,} more descriptions match no row"
         yield from self.empty_columns()
         if self.left <= 0:
             yield "there are too many descriptions and probes to look at all"
@@ -157,12 +157,12 @@ class Looked:
     def with_words(self, wanted):
         """A probe of the trace that has all words of a description, if in other fields."""
         words = {field for field in wanted if field}
-        found = (probe for probe in self.probes[len(OWN) :][:MOST_NEAR] if words <= set(probe))
+        found = (probe for probe in self.probes[len(OWN) :][:MAX_NEAR] if words <= set(probe))
         return next(found, None)
 
     def nearest(self, wanted):
         """The probe of the trace whose names are most like those of a description."""
-        own = {show(probe): probe for probe in self.probes[len(OWN) :][:MOST_NEAR]}
+        own = {show(probe): probe for probe in self.probes[len(OWN) :][:MAX_NEAR]}
         best, most = None, 0.6
         for probe in own.values():
             self.steps -= steps_of(wanted, probe)
@@ -176,7 +176,7 @@ class Looked:
 
 def steps_of(wanted, probe):
     """About how many steps a comparison takes at worst, which grows by the third power."""
-    lengths = [[min(len(text), MOST_LIKE) for text in texts] for texts in (wanted, probe)]
+    lengths = [[min(len(text), MAX_LIKE) for text in texts] for texts in (wanted, probe)]
     return sum(a * b * (a + b) // 32 for a, b in zip(*lengths))
 
 
@@ -190,7 +190,7 @@ def like(wanted, probe):
 
 @functools.lru_cache(maxsize=50_000)
 def likeness(pattern, text):
-    a, b = pattern[:MOST_LIKE].lower(), text[:MOST_LIKE].lower()
+    a, b = pattern[:MAX_LIKE].lower(), text[:MAX_LIKE].lower()
     return difflib.SequenceMatcher(None, a, b).ratio()
 
 

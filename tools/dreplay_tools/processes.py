@@ -1,9 +1,9 @@
 """Which process a thread belongs to, and which program it runs."""
 from .ends import Failure, shorten
 from .strace import BIRTHS
-from .trace import MOST_NUMBER, field, text
+from .trace import MAX_NUMBER, field, text
 
-MOST_OF_A_LINE = 1 << 16  # bytes
+MAX_OF_A_LINE = 1 << 16  # bytes
 
 
 class Processes:
@@ -18,7 +18,7 @@ class Processes:
     def read(self, path):
         """Takes threads that ran before the recording: lines of thread, process and name."""
         with open(path, "rb") as file:
-            for number, line in enumerate(iter(lambda: file.readline(MOST_OF_A_LINE), b""), 1):
+            for number, line in enumerate(iter(lambda: file.readline(MAX_OF_A_LINE), b""), 1):
                 words = line.rstrip(b"\n").split(b" ", 2)
                 if len(words) < 3 or not is_number(words[0]) or not is_number(words[1]):
                     raise Failure(f"{shorten(path)}: line {number} has no thread, process and name")
@@ -45,7 +45,7 @@ class Processes:
         begun = call.program()
         if begun and process not in self.names:
             self.rename(process, begun)
-        if call.name in BIRTHS and 0 < (call.born or 0) <= MOST_NUMBER:
+        if call.name in BIRTHS and 0 < (call.born or 0) <= MAX_NUMBER:
             self.birth(call, str(call.born), process)
 
     def leave(self, thread, call):
@@ -76,4 +76,4 @@ class Processes:
 
 def is_number(shown):
     """Whether a word is the number of a thread or a process."""
-    return shown.isdigit() and len(shown) <= 10 and 0 < int(shown) <= MOST_NUMBER
+    return shown.isdigit() and len(shown) <= 10 and 0 < int(shown) <= MAX_NUMBER

@@ -27,7 +27,7 @@ NO_KIND = (
 HEADER = re.compile(rb'(?:\xef\xbb\xbf)?"?number"?[,;\t]')  # of a trace, though not as it has to be
 NO_RECORDING = 2
 BLOCK = 1 << 20
-MOST_DEPTH, MOST_LOOKED_AT = 6, 10_000  # of the folders and files in which CTF is looked for
+MAX_DEPTH, MAX_LOOKED_AT = 6, 10_000  # of the folders and files in which CTF is looked for
 
 
 class Recording:
@@ -118,7 +118,7 @@ def ctf_folders(path):
         looked += 1 + len(names)
         if "metadata" in names:
             found.append(folder)
-        if looked > MOST_LOOKED_AT or folder.count(os.sep) - path.count(os.sep) >= MOST_DEPTH:
+        if looked > MAX_LOOKED_AT or folder.count(os.sep) - path.count(os.sep) >= MAX_DEPTH:
             folders.clear()
     return found
 

@@ -4,7 +4,7 @@ Read from its tokens.
 from dataclasses import dataclass, field
 
 from .ends import Failure
-from .tokens import ASSIGNING, MOST_BYTES, MOST_IN_A_ROW, PREDICATE, decode, join, tokens, value
+from .tokens import ASSIGNING, MAX_BYTES, MAX_IN_A_ROW, PREDICATE, decode, join, tokens, value
 
 TEXT_BUILTINS = {"execname", "probeprov", "probemod", "probefunc", "probename"}
 HISTOGRAMS = {"quantize", "lquantize"}
@@ -88,12 +88,12 @@ class Script:
                 some = [token]
             elif token.place == PREDICATE and not token.closes:
                 if token.text == "{":
-                    clause.predicate, some = some[:MOST_IN_A_ROW], []
+                    clause.predicate, some = some[:MAX_IN_A_ROW], []
                 else:
                     some.append(token)
             elif token.place == "body":
                 if token.text in (";", "}"):
-                    clause.statements += [some] if 0 < len(some) <= MOST_IN_A_ROW else []
+                    clause.statements += [some] if 0 < len(some) <= MAX_IN_A_ROW else []
                     some = []
                 elif token.text != "{":
                     some.append(token)
@@ -104,12 +104,12 @@ class Script:
 
 def of_file(file):
     """The script that a file holds."""
-    return of_bytes(file.read(MOST_BYTES + 1))
+    return of_bytes(file.read(MAX_BYTES + 1))
 
 
 def of_bytes(data):
     """The script of some bytes."""
-    if len(data) > MOST_BYTES:
+    if len(data) > MAX_BYTES:
         raise Failure("the script has more than 65,536 bytes, so dreplay refused it")
     return Script(decode(data))
 

@@ -1,7 +1,7 @@
 """A refusal as one line that editors and other programs take: FILE:LINE:COLUMN: error: .."""
 from . import explanations, guesses, labels
 
-MOST_SAID = 300
+MAX_SAID = 300
 
 
 def line_of(line, refusal, place, given, names):
@@ -15,7 +15,7 @@ def line_of(line, refusal, place, given, names):
     else:
         where, said = (trace if refusal.kind == "Trace" else script) or "dreplay", []
     said = said or [refusal.cause.rstrip(".")]
-    return labels.printable(labels.cut(f"{where}: error: {name}: {'; '.join(said)}", MOST_SAID))
+    return labels.printable(labels.cut(f"{where}: error: {name}: {'; '.join(said)}", MAX_SAID))
 
 
 def of_script(refusal, place, given, name):

@@ -6,15 +6,15 @@ from .percentiles import percents
 
 FORMS = ["table", "csv", "json", "markdown", "bars", "svg", "heat", "html", "folded", "timeline"]
 UNITS = ["ns", "us", "ms", "s", "bytes"]
-FEWEST_COLUMNS = 20  # in which a bar has room beside its label
+MIN_COLUMNS = 20  # in which a bar has room beside its label
 DEFAULTS = {"form": "table", "title": "", "width": 80}
 
 
 def columns(shown):
     """A width of bars."""
     width = number(shown)
-    if width < FEWEST_COLUMNS:
-        raise argparse.ArgumentTypeError(f"bars take {FEWEST_COLUMNS} columns at least")
+    if width < MIN_COLUMNS:
+        raise argparse.ArgumentTypeError(f"bars take {MIN_COLUMNS} columns at least")
     return width
 
 

@@ -3,7 +3,7 @@ import os
 import re
 
 from .errors import RETURNED
-from .trace import MOST_NUMBER, text, to_signed
+from .trace import MAX_NUMBER, text, to_signed
 
 NAME = r"[a-z_][a-z0-9_]{0,80}"  # of a system call
 CALL = re.compile(rf"({NAME})\(")
@@ -241,7 +241,7 @@ class Shape:
         thread, time = found[1], self.time(found[2], found[3])
         if self.on_terminal:
             thread = self.on_terminal.thread(thread, found[4])
-        if len(thread) == 10 and int(thread) > MOST_NUMBER:
+        if len(thread) == 10 and int(thread) > MAX_NUMBER:
             raise BadLine("the number of its thread is too large")
         return thread, time, found[4]
 

@@ -7,8 +7,8 @@ one of `unclosed`. Each byte is looked at a bounded number of times, so the time
 import re
 from dataclasses import dataclass
 
-MOST_BYTES = 65_536
-MOST_IN_A_ROW = 1024  # tokens of a statement
+MAX_BYTES = 65_536
+MAX_IN_A_ROW = 1024  # tokens of a statement
 HEAD, DECLARATION, PREDICATE, BODY = "head", "declaration", "predicate", "body"
 
 MARKS = (

@@ -14,9 +14,9 @@ COLUMNS = (
 )
 HEADER = ",".join(COLUMNS)
 TEXT_BYTES = 255
-MOST_ROWS = 1_000_000
-MOST_NUMBER = 2**31 - 1  # of a processor, a thread or a process
-MOST_TIME = 2**64 - 1
+MAX_ROWS = 1_000_000
+MAX_NUMBER = 2**31 - 1  # of a processor, a thread or a process
+MAX_TIME = 2**64 - 1
 
 
 def text(data):

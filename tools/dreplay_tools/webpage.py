@@ -9,11 +9,11 @@ from .ends import say_count
 from .forms import table
 from .heat import WIDEST_COLUMN, WIDEST_ROW, caption, has_heat, heat_of
 from .labels import SHARE, cut, interval, name, printable, show_number
-from .pictures import MOST_BUCKETS, MOST_CHARTS, and_more, largest
+from .pictures import MAX_BUCKETS, MAX_CHARTS, and_more, largest
 
-MOST_ROWS = 20_000
+MAX_ROWS = 20_000
 WIDEST_INTERVAL = 28  # of a histogram's labels in one line
-FEWEST_IN_HEAT = 3  # rows and columns, below which a heat map shows no more than a table
+MIN_IN_HEAT = 3  # rows and columns, below which a heat map shows no more than a table
 
 STYLE = """
 :root { color-scheme: light dark; --surface: #ffffff; --ink: #1f2328; --muted: #59636e;
@@ -156,17 +156,17 @@ def section(shown, args):
     )
     if has_heat(shown):
         heat = heat_of(shown, args)
-        if min(len(heat.rows), len(heat.columns)) >= FEWEST_IN_HEAT:
+        if min(len(heat.rows), len(heat.columns)) >= MIN_IN_HEAT:
             yield from heat_table(heat)
     if aggregation.is_histogram:
         if args.percentiles:
             yield from data_table(shown, args, with_bars=False)
         yield '<div class="cards">'
-        for keys, rows in shown.entries[:MOST_CHARTS]:
+        for keys, rows in shown.entries[:MAX_CHARTS]:
             yield from card(keys, rows, args)
         yield "</div>"
-        if len(shown.entries) > MOST_CHARTS:
-            yield f"<p>{and_more(len(shown.entries) - MOST_CHARTS, 'histograms')}</p>"
+        if len(shown.entries) > MAX_CHARTS:
+            yield f"<p>{and_more(len(shown.entries) - MAX_CHARTS, 'histograms')}</p>"
         yield "<details><summary>All buckets</summary>"
         whole = type(args)(**{**vars(args), "percentiles": None})
         yield from data_table(shown, whole, with_bars=False)
@@ -180,11 +180,11 @@ def data_table(shown, args, with_bars):
     """A table whose columns sort at a click."""
     names, rows = table(shown, args)
     sorts = [entry[1] for entry in shown.entries] if with_bars else [row[-1] for row in rows]
-    more = len(rows) - MOST_ROWS
+    more = len(rows) - MAX_ROWS
     if more > 0 and with_bars:
-        entries, _ = largest(list(zip(rows, sorts)), MOST_ROWS, lambda entry: abs(entry[1]))
+        entries, _ = largest(list(zip(rows, sorts)), MAX_ROWS, lambda entry: abs(entry[1]))
         rows, sorts = map(list, zip(*entries))
-    rows = rows[:MOST_ROWS]
+    rows = rows[:MAX_ROWS]
     is_number = [
         *(not is_text for is_text in shown.aggregation.texts),
         *[True] * (len(names) - len(shown.aggregation.texts)),
@@ -245,7 +245,7 @@ class Bars:
 def card(keys, rows, args):
     """A histogram: a row for each bucket."""
     total = sum(row.count for row in rows)
-    rows, more = largest(rows, MOST_BUCKETS, lambda row: row.count)
+    rows, more = largest(rows, MAX_BUCKETS, lambda row: row.count)
     bars = Bars([row.count for row in rows])
     unit = SHARE if args.value_unit == SHARE else None
     title = "  ".join(map(name, keys))

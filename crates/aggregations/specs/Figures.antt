@@ -27,17 +27,17 @@ figure_of (Greatest m) = Single m
 figure_of (Mean m) = Single (int_div m.sum (pos m.count))
 figure_of (Counts h) = Distribution h
 
--- the number, where there is one
+-- the number, if there is one
 abbrev pub single_in : Figure → Option ℤ
 single_in (Single z) = Some z
 single_in (Distribution h) = None
 
--- the histogram, where there is one
+-- the histogram, if there is one
 abbrev pub histogram_in : Figure → Option Histogram
 histogram_in (Single z) = None
 histogram_in (Distribution h) = Some h
 
--- the total and the number of arguments that a mean is of, where one is shown
+-- the total and the number of arguments that a mean is of, if one is shown
 abbrev pub mean_in : Held → Option (ℤ × ℕ)
 mean_in (Counted n) = None
 mean_in (Summed s) = None

@@ -46,7 +46,7 @@ arguments_of agg key contributions = map (λ c. c.arg) (filter (is_for agg key) 
 abbrev pub entry_at : List KeyPart → Aggregation → Option Held
 entry_at key a = lookup (same_key key) a.entries
 
--- an entry is there exactly where there are arguments, and its value is theirs
+-- an entry is there exactly if there are arguments, and its value is theirs
 abbrev pub IsEntry : AggFn → Option Held → List ℤ → Type 0
 IsEntry function None args = args ≡ []
 IsEntry function (Some held) args = (args ≢ []) × IsValue function held args

@@ -12,7 +12,7 @@ use std::alloc::{AllocError, Global};
 use std::marker::Model;
 
 // The first few buckets are compared one by one, which costs less than a look-up.
-const FEW: usize = 8;
+const MAX_COMPARED: usize = 8;
 
 /// How many arguments each bucket of a scale has. Only buckets that have arguments take room.
 #[derive(Drop)]
@@ -62,7 +62,7 @@ impl Histogram {
         self.scale
     }
 
-    /// How many arguments a bucket has: none where the scale has no such bucket.
+    /// How many arguments a bucket has: none if the scale has no such bucket.
     ///
     /// ```text
     /// // of `quantize`, after the arguments 2 and 3
@@ -180,7 +180,7 @@ fn index_of(used: &IndexMap<u32, u64>, bucket: u32) -> Option<usize>
     ensures { MatchOption result (get nat_eq used.now bucket ≡ None)
         (λ i. IsBucketAt used.now.entries i bucket) }
 {
-    for index in 0..used.len().min(FEW) {
+    for index in 0..used.len().min(MAX_COMPARED) {
         if is_at(used, index, bucket) {
             return Some(index);
         }

@@ -3,13 +3,13 @@
 use std::alloc::Global;
 
 // How many slots the first cache has.
-const FEWEST: usize = 32;
+const MIN_SLOTS: usize = 32;
 
 // How many slots there are for each entry, at least, unless there are as many as there may be.
 const SPREAD: usize = 8;
 
 // How many slots there are at most: more would not stay in the processor's own memory.
-const MOST: usize = 1 << 15;
+const MAX_SLOTS: usize = 1 << 15;
 
 /// A direct-mapped cache of the indices of entries, which grows with them. The caller checks that
 /// the entry is the one that it seeks, so a cached index is never wrong.
@@ -41,7 +41,7 @@ impl IndexCache {
 
     /// Puts an index where this hash leads.
     pub(crate) fn put(&mut self, hash: u64, index: usize) {
-        if self.indices.len() / SPREAD <= index && self.indices.len() < MOST {
+        if self.indices.len() / SPREAD <= index && self.indices.len() < MAX_SLOTS {
             self.grow();
         }
         let slot = self.slot(hash);
@@ -53,7 +53,7 @@ impl IndexCache {
     // Forgets all indices, and has twice as many slots, unless memory is refused.
     fn grow(&mut self) {
         let alloc = *self.indices.allocator();
-        let slots = self.indices.len().saturating_mul(2).max(FEWEST);
+        let slots = self.indices.len().saturating_mul(2).max(MIN_SLOTS);
         if let Ok(indices) = vec![in alloc; 0; slots] {
             self.indices = indices;
         }

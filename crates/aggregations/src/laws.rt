@@ -12,7 +12,7 @@ pub fn order_plays_no_part()
         → SameItems xs ys → StandsFor table xs → StandsFor table ys }
 {}
 
-/// Arguments, where there are any, have a value.
+/// Arguments, if there are any, have a value.
 pub fn has_value()
     ensures { (function : AggFn) (args : List ℤ)
         → args ≢ [] → (held : Held) × IsValue function held args }

@@ -23,7 +23,7 @@ pub(crate) fn is_key_of(key: &Key, values: &[ValueRef<'_>]) -> bool
     true
 }
 
-/// The key that these values make, in the room of another where both have as many parts.
+/// The key that these values make, in the room of another if both have as many parts.
 pub(crate) fn key_in_room(
     alloc: Global,
     room: Key,

@@ -16,7 +16,7 @@ mod table;
 
 pub use function::AggFn;
 pub use histogram::Histogram;
-pub use linear_range::{LinearRange, MOST_LEVELS, MOST_STEP};
+pub use linear_range::{LinearRange, MAX_LEVELS, MAX_STEP};
 pub use partial::Partial;
 pub use scale::Scale;
 pub use table::AggTable;

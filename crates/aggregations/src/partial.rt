@@ -111,7 +111,7 @@ impl Partial {
     }
 
     /// The total, wrapped into 64 bits, and the number of the arguments whose mean the entry shows.
-    /// None where it shows no mean.
+    /// None if it shows no mean.
     ///
     /// ```text
     /// partial.mean(); // for `avg` of 1, 2 and 6: Some((9, 3))
@@ -143,7 +143,7 @@ impl Partial {
         self.held.histogram()
     }
 
-    /// How many arguments a bucket of the histogram has: 0 where the entry shows a number.
+    /// How many arguments a bucket of the histogram has: 0 if the entry shows a number.
     ///
     /// ```text
     /// // of `quantize`, after the arguments 2 and 3

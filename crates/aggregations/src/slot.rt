@@ -58,7 +58,7 @@ impl Slot {
         self.function
     }
 
-    /// Takes one argument for the key, which is cloned only where it has no entry yet. A map that
+    /// Takes one argument for the key, which is cloned only if it has no entry yet. A map that
     /// is made here hashes by this key.
     pub(crate) fn add(
         &mut self,

@@ -18,7 +18,7 @@ use Rattle.std.specs.Prelude.{◌≤◌, IfErr, IsSomeAnd, MatchResult, Result, 
 use Rattle.std.proofs.lemmas.Option.{same_Some}
 use Rattle.consumer.specs.Plans.{IsDefault}
 use Rattle.consumer.specs.Vocabulary.{IsNumeral, digits_value, without_leading_plus, Dealt, Dif}
-use Rattle.consumer.specs.Vocabulary.{Plan, MOST_GROUPS, MOST_WORKERS}
+use Rattle.consumer.specs.Vocabulary.{Plan, MAX_GROUPS, MAX_WORKERS}
 use Rattle.consumer.specs.declared.words.Request.{Request}
 use Rattle.consumer.specs.declared.words.UsageFault.{UsageFault}
 use Rattle.consumer.specs.declared.words.UsageFault.TheVariants.{Help, Usage, Memory}
@@ -214,8 +214,8 @@ number_is low high rows id text n has is =
 
 default_plan : (rows : List Row) (plan : Plan) → HasDefaults rows → IsPlanIn rows plan → IsDefault plan
 default_plan rows plan has is = record {
-  workers = sym (number_is 1 MOST_WORKERS rows (codes "workers") (codes "4") plan.workers has.workers is.workers);
-  groups = is.groups.1 ∙ ap Dealt (sym (number_is 1 MOST_GROUPS rows (codes "groups") (codes "16") is.groups.0 has.groups is.groups.2));
+  workers = sym (number_is 1 MAX_WORKERS rows (codes "workers") (codes "4") plan.workers has.workers is.workers);
+  groups = is.groups.1 ∙ ap Dealt (sym (number_is 1 MAX_GROUPS rows (codes "groups") (codes "16") is.groups.0 has.groups is.groups.2));
   engine = same_Some plan.engine Dif (sym is.engine ∙ ap (option_and_then engine_called) has.engine);
 }
 
@@ -270,8 +270,8 @@ has_values _ _ _ _ (SetPlan.engine e v) = rw v.2 (engine_value v.0 v.1 (no_hyphe
 plan_by : (rows : List Row) (workers groups engine : List ℕ) (plan : Plan) → HasValues rows workers groups engine
     → IsPlanIn rows plan → IsPlanBy workers groups engine plan
 plan_by rows workers groups engine plan has is = record {
-  workers = sym (number_is 1 MOST_WORKERS rows (codes "workers") workers plan.workers has.workers is.workers);
-  groups = is.groups.1 ∙ ap Dealt (sym (number_is 1 MOST_GROUPS rows (codes "groups") groups is.groups.0 has.groups is.groups.2));
+  workers = sym (number_is 1 MAX_WORKERS rows (codes "workers") workers plan.workers has.workers is.workers);
+  groups = is.groups.1 ∙ ap Dealt (sym (number_is 1 MAX_GROUPS rows (codes "groups") groups is.groups.0 has.groups is.groups.2));
   engine = sym (ap (option_and_then engine_called) has.engine) ∙ is.engine;
 }
 

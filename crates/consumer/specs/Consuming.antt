@@ -3,26 +3,26 @@ use Rattle.std.specs.Prelude.{◌≡◌, ◌≢◌, ◌≤◌, ◌⊎◌, ◌+�
 use Rattle.std.specs.Prelude.{IsTrue, IsFalse}
 use Rattle.replay_core.specs.Layouts.{LayoutMeant}
 use Rattle.streams.specs.{Stream.FeedSeen, Stream.IsSent, Stream.SinkSeen, Turns.IsCutShort}
-use Rattle.consumer.specs.Vocabulary.{MOST_CALLS, ReadFault, Failed, ConsumeFault, Read, Refused}
+use Rattle.consumer.specs.Vocabulary.{MAX_CALLS, ReadFault, Failed, ConsumeFault, Read, Refused}
 use Rattle.consumer.specs.Vocabulary.{Write, Refusal, Memory, Plan, Replayed}
 use Rattle.consumer.specs.{Bundle.Divides, Replaying.IsReplay}
 
--- The reader was read to its end, or the fault says why not. It, and only it, is blamed where it
+-- The reader was read to its end, or the fault says why not. It, and only it, is blamed if it
 -- failed or had not ended.
 pub record IsReadToEnd (old new : FeedSeen) (result : Result Replayed ConsumeFault) : Type 0 where
   pub blamed : result ≡ Err Read → IsCutShort old new
   pub whole : result ≢ Err Read
       → IsFalse new.has_failed × ((result ≡ Err (Refused Memory)) ⊎ IsTrue new.has_ended)
-  pub few : new.calls ≤ old.calls + MOST_CALLS
+  pub few : new.calls ≤ old.calls + MAX_CALLS
 
--- this holds of the bytes that were to be read; where these are not known, of some
+-- this holds of the bytes that were to be read; if these are not known, of some
 pub record HoldsOfInput (remaining : Option (List ℕ)) (Holds : List ℕ → Type 0) : Type 0 where
   pub input : List ℕ
   pub read : IfSome remaining (λ bytes. input ≡ bytes)
   pub holds : Holds input
 
--- The answer goes out and is flushed; where there is none, nothing is written. The writer, and only
--- it, is blamed where it failed.
+-- The answer goes out and is flushed; if there is none, nothing is written. The writer, and only
+-- it, is blamed if it failed.
 abbrev pub WritesOut : Result Replayed Refusal → (old new : SinkSeen)
     → Result Replayed ConsumeFault → Type 0
 WritesOut (Err e) old new result = (new ≡ old) × (result ≡ Err (Refused e))

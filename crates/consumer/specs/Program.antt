@@ -63,7 +63,7 @@ pub record IsRunOf (shows : LayoutMeant) (request : Request) (holds : List ℕ �
   -- the input was read; or the file could not be, and no input was
   pub read : IsReadToEnd old.input new.input result
       ⊎ (IsSome request.file × (result ≡ Err Read) × (new.input ≡ old.input))
-  -- where reading failed nothing is written
+  -- if reading failed nothing is written
   pub unread : result ≡ Err Read → new.output ≡ old.output
 
 -- ---- without a run
@@ -74,7 +74,7 @@ pub record IsSpent (old new : StreamsSeen) (status : ℕ) : Type 0 where
   pub output : new.output ≡ old.output
   pub line : IsReported (Err (Refused Memory)) old.errors new.errors
 
--- help goes to the output; where that fails, the program says so
+-- help goes to the output; if that fails, the program says so
 pub record IsHelped (old new : StreamsSeen) (status : ℕ) : Type 0 where
   pub text : List ℕ
   pub sent : IsSent text old.output new.output
@@ -96,7 +96,7 @@ EndsWithoutRun usage.Memory old new status = IsSpent old new status
 
 -- ---- the program
 
--- The words ask for a run, and the program ends as that does, with its status and, where there is
+-- The words ask for a run, and the program ends as that does, with its status and, if there is
 -- no answer, its line; or they ask for none, and the input is not read.
 pub data Ends {A Z E : Type 0} (shows : LayoutMeant) (given : Result (IntoIter (String A) Z) E)
     (holds : List ℕ → Option (List ℕ)) (old new : StreamsSeen) (status : ℕ) : Type 0 where

@@ -79,7 +79,7 @@ consume_fault_line Read = codes "dreplay: read failed"
 consume_fault_line (Refused e) = refusal_line e
 consume_fault_line Write = codes "dreplay: write failed"
 
--- where there is no answer, its line goes to standard error
+-- if there is no answer, its line goes to standard error
 abbrev pub IsReported : Result Replayed ConsumeFault → (old new : SinkSeen) → Type 0
 IsReported (Ok r) old new = new ≡ old
 IsReported (Err e) old new = IsSent (consume_fault_line e ++ 10 ∷ []) old new

@@ -2,14 +2,14 @@
 use Rattle.std.specs.Prelude.{◌≤◌, ◌<◌, ℕ, List, Ok, Err}
 use Rattle.d_parser.specs.{Limits.IsDeep, Limits.clauses, Script.IsScript, Tree.ItemTree}
 use Rattle.d_types.specs.Checking.{IsChecked}
-use Rattle.consumer.specs.Vocabulary.{Token, IsLexed, IsRefused, ParseFault, MOST_CLAUSES}
+use Rattle.consumer.specs.Vocabulary.{Token, IsLexed, IsRefused, ParseFault, MAX_CLAUSES}
 use Rattle.consumer.specs.Vocabulary.{TypeFault, ScriptMeant, Refusal, Lex, Parse, Typing}
 
 -- these are the script's tokens, and no limit is passed
 pub record HasTokens (script : List ℕ) (tokens : List Token) : Type 0 where
   pub lexed : IsLexed script tokens
   pub shallow : ¬ IsDeep tokens
-  pub few : clauses tokens ≤ MOST_CLAUSES
+  pub few : clauses tokens ≤ MAX_CLAUSES
 
 -- this is the script's tree
 pub record HasTree (script : List ℕ) (items : List ItemTree) : Type 0 where
@@ -23,7 +23,7 @@ IsParseFault script ParseFault.TooDeep =
     (tokens : List Token) × IsLexed script tokens × IsDeep tokens
 IsParseFault script ParseFault.TooManyClauses =
     (tokens : List Token) × IsLexed script tokens
-    × (¬ IsDeep tokens) × (MOST_CLAUSES < clauses tokens)
+    × (¬ IsDeep tokens) × (MAX_CLAUSES < clauses tokens)
 IsParseFault script (ParseFault.Syntax line) =
     (tokens : List Token) × HasTokens script tokens
     × ((items : List ItemTree) → ¬ IsScript items tokens)

@@ -12,11 +12,11 @@ pub use Rattle.clap.specs.declared.error.kind.ErrorKind.TheVariants.{DisplayHelp
 pub use Rattle.clap.specs.declared.error.kind.ErrorKind.TheVariants.{OutOfMemory, UnknownArgument}
 pub use Rattle.d_lexer.specs.Lexing.{IsLexed, IsRefused}
 pub use Rattle.d_lexer.specs.declared.fault.LexFault.{LexFault}
-pub use Rattle.d_lexer.specs.declared.fault.TheConstants.{MOST_BYTES}
+pub use Rattle.d_lexer.specs.declared.fault.TheConstants.{MAX_BYTES}
 pub use Rattle.d_lexer.specs.declared.token.Token.{Token}
 pub use Rattle.d_parser.specs.declared.fault.ParseFault.{ParseFault}
 pub use Rattle.d_parser.specs.declared.fault.ParseFault.TheVariants.{Syntax}
-pub use Rattle.d_parser.specs.declared.fault.TheConstants.{MOST_CLAUSES}
+pub use Rattle.d_parser.specs.declared.limits.TheConstants.{MAX_CLAUSES}
 pub use Rattle.d_types.specs.Typed.{ScriptMeant, functions_in}
 pub use Rattle.d_types.specs.TypedScripts.{typed_script_of}
 pub use Rattle.d_types.specs.declared.fault.TypeFault.{TypeFault}
@@ -28,11 +28,11 @@ pub use Rattle.firing_reader.specs.declared.fault.TraceFault.{TraceFault}
 pub use Rattle.firings.specs.declared.firing.Firing.{Firing}
 pub use Rattle.streams.specs.declared.reading.ReadFault.{ReadFault}
 pub use Rattle.streams.specs.declared.reading.ReadFault.TheVariants.{Failed}
-pub use Rattle.streams.specs.declared.reading.TheConstants.{MOST_CALLS}
+pub use Rattle.streams.specs.declared.reading.TheConstants.{MAX_CALLS}
 pub use Rattle.shard_queue.specs.Groupings.{Grouping}
 pub use Rattle.shard_queue.specs.declared.fault.GroupFault.{GroupFault}
-pub use Rattle.shard_queue.specs.declared.groups.TheConstants.{MOST_GROUPS}
-pub use Rattle.shard_queue.specs.declared.queue.TheConstants.{MOST_WORKERS}
+pub use Rattle.shard_queue.specs.declared.limits.TheConstants.{MAX_GROUPS}
+pub use Rattle.shard_queue.specs.declared.limits.TheConstants.{MAX_WORKERS}
 pub use Rattle.consumer.specs.declared.consuming.ConsumeFault.{ConsumeFault}
 pub use Rattle.consumer.specs.declared.consuming.ConsumeFault.TheVariants.{Read, Refused, Write}
 pub use Rattle.consumer.specs.declared.plan.EngineKind.{EngineKind}

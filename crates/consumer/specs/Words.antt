@@ -7,7 +7,7 @@ use Rattle.clap.specs.Words.{new_app, new_rule, one_of, with_rule}
 use Rattle.consumer.specs.Vocabulary.{bytes_eq, IsNumeral, digits_value, without_leading_plus}
 use Rattle.consumer.specs.Vocabulary.{Signed, ErrorKind, DisplayHelp, OutOfMemory, InvalidValue}
 use Rattle.consumer.specs.Vocabulary.{UnknownArgument, Request, UsageFault, EngineKind, Dif, Tree}
-use Rattle.consumer.specs.Vocabulary.{Dealt, Plan, MOST_GROUPS, MOST_WORKERS}
+use Rattle.consumer.specs.Vocabulary.{Dealt, Plan, MAX_GROUPS, MAX_WORKERS}
 use Rattle.consumer.specs.declared.words.UsageFault.TheVariants.{Help, Usage, Memory}
 
 -- ---- the options
@@ -16,7 +16,7 @@ use Rattle.consumer.specs.declared.words.UsageFault.TheVariants.{Help, Usage, Me
 abbrev pub option : (id : List ℕ) → (letter : ℕ) → Rule
 option id letter = record (new_rule id) { short = Some letter; value_names = 1 }
 
--- one that has this value where it isn't given
+-- one that has this value if it isn't given
 abbrev pub option_or : (id : List ℕ) → (letter : ℕ) → (default : List ℕ) → Rule
 option_or id letter default = record (option id letter) { defaults = default ∷ [] }
 
@@ -27,8 +27,8 @@ number_option id letter most default =
 
 abbrev pub options : List Rule
 options = option (codes "script") 115
-    ∷ number_option (codes "workers") 119 MOST_WORKERS (codes "4")
-    ∷ number_option (codes "groups") 103 MOST_GROUPS (codes "16")
+    ∷ number_option (codes "workers") 119 MAX_WORKERS (codes "4")
+    ∷ number_option (codes "groups") 103 MAX_GROUPS (codes "16")
     ∷ option_or (codes "engine") 101 (codes "dif")
     ∷ []
 
@@ -65,9 +65,9 @@ IsNumberIn low high rows id n = IsSomeAnd (one_of id rows) (λ text.
 
 -- the plan of -w, -g and -e
 pub record IsPlanIn (rows : List Row) (plan : Plan) : Type 0 where
-  pub workers : IsNumberIn 1 MOST_WORKERS rows (codes "workers") plan.workers
+  pub workers : IsNumberIn 1 MAX_WORKERS rows (codes "workers") plan.workers
   pub groups : (n : ℕ) × (plan.groups ≡ Dealt n)
-      × IsNumberIn 1 MOST_GROUPS rows (codes "groups") n
+      × IsNumberIn 1 MAX_GROUPS rows (codes "groups") n
   pub engine : engine_in rows ≡ Some plan.engine
 
 pub record IsRequestIn (rows : List Row) (request : Request) : Type 0 where

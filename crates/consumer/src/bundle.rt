@@ -53,7 +53,7 @@ fn divide_last(bundle: &[u8], passed: usize) -> Division<'_>
 }
 
 /// How many bytes the whole lines before the first dividing one have, and what comes after that
-/// one; or how many all whole lines have, where none divides.
+/// one; or how many all whole lines have, if none divides.
 pub(crate) fn first_lines(bundle: &[u8]) -> (usize, Option<&[u8]>)
     ensures { MatchOption result.1 (IsUndivided bundle.now result.0)
         (λ trace. IsDividedAt bundle.now result.0 trace.now) }

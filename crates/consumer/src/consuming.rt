@@ -27,7 +27,7 @@ pub enum ConsumeFault {
     /// There is no answer, and nothing was written.
     #[error(transparent)]
     Refused(Refusal),
-    /// The writer failed. A beginning of the answer was written, or all of it where it failed as it
+    /// The writer failed. A beginning of the answer was written, or all of it if it failed as it
     /// was flushed.
     #[error("write failed")]
     Write,

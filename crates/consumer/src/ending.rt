@@ -6,7 +6,7 @@ ghost use Rattle.consumer.specs.{Lines.reason_bytes};
 ghost use Rattle.consumer.specs.Refusals.{IsReported, consume_fault_line, status_at_end};
 
 use crate::consuming::ConsumeFault;
-use crate::line::{MOST_TEXT, Place, Reason, reason_line};
+use crate::line::{MAX_REASON, Place, Reason, reason_line};
 use crate::plan::Replayed;
 use crate::refusal::{refusal_reason, refusal_status};
 use streams::{Sink, send};
@@ -58,7 +58,7 @@ fn tell<E: Sink>(errors: &mut E, fault: &ConsumeFault)
 // The text and the place in the line of a fault.
 fn fault_reason(fault: &ConsumeFault) -> Reason
     ensures bytes { reason_bytes result ≡ consume_fault_line fault.now }
-    ensures short { length result.text.now ≤ MOST_TEXT }
+    ensures short { length result.text.now ≤ MAX_REASON }
 {
     let text = match fault {
         ConsumeFault::Read => "dreplay: read failed",
@@ -71,7 +71,7 @@ fn fault_reason(fault: &ConsumeFault) -> Reason
     }
 }
 
-/// The status that the program ends with: the script's own where it exits, 0 where it doesn't, and
+/// The status that the program ends with: the script's own if it exits, 0 if it doesn't, and
 /// otherwise the fault's.
 ///
 /// ```text

@@ -6,7 +6,7 @@ ghost use Rattle.consumer.specs.{Steps.Files.IsScriptIn};
 ghost use Rattle.consumer.specs.Vocabulary.{Memory, Read, Refused};
 
 use crate::consuming::ConsumeFault;
-use d_lexer::MOST_BYTES;
+use d_lexer::MAX_BYTES;
 use std::alloc::Global;
 use std::fs::File;
 use std::rt::Files;
@@ -74,7 +74,7 @@ fn script_bytes<F: Feed>(alloc: Global, file: &mut F) -> Result<Vec<u8>, ReadFau
 {
     let mut reading = Reading::new(alloc)?;
     let mut script = Vec::new(alloc);
-    let read = read_block(file, &mut reading, &mut script, MOST_BYTES + 1);
+    let read = read_block(file, &mut reading, &mut script, MAX_BYTES + 1);
     drop(reading);
     read.map(|_| script)
 }

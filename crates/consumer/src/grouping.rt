@@ -4,7 +4,7 @@ ghost use Rattle.std.specs.Prelude.{◌≡◌, ◌≤◌, ◌+◌, ◌⊎◌, If
 ghost use Rattle.shard_queue.specs.{Threads.run_threads};
 ghost use Rattle.shard_queue.specs.{declared.fault.GroupFault.TheVariants.Memory};
 ghost use Rattle.shard_queue.specs.Groups.{AreOf, grouping};
-ghost use Rattle.consumer.specs.{Vocabulary.MOST_GROUPS};
+ghost use Rattle.consumer.specs.{Vocabulary.MAX_GROUPS};
 ghost use Rattle.consumer.specs.Plans.{AreInBounds, IsGroupedBy, IsMisgrouped};
 
 use crate::plan::GroupPlan;
@@ -23,7 +23,7 @@ pub fn groups_of(alloc: Global, plan: &GroupPlan, trace: &Trace) -> Result<Group
     requires { AreInBounds plan.now }
     ensures grouped { IfOk result (λ g. IsGroupedBy plan.now trace.now (grouping g)) }
     ensures of { IfOk result (λ g. AreOf g (run_threads trace.now)) }
-    ensures few { IfOk result (λ g. (grouping g).count ≤ MOST_GROUPS + 1) }
+    ensures few { IfOk result (λ g. (grouping g).count ≤ MAX_GROUPS + 1) }
     ensures fault { IfErr result (λ e. (e ≡ Memory) ⊎ IsMisgrouped plan.now trace.now e) }
 {
     match plan {

@@ -15,7 +15,7 @@ use crate::bundle::{divide, first_lines};
 use crate::plan::ReadingPlan;
 use crate::refusal::Refusal;
 use crate::scripts::judge;
-use d_lexer::{LexFault, MOST_BYTES};
+use d_lexer::{LexFault, MAX_BYTES};
 use d_types::TypedScript;
 use firing_reader::Reader;
 use std::alloc::{AllocError, Global};
@@ -23,23 +23,23 @@ use std::mem::replace;
 use std::thread::{Threads, join_mut};
 use streams::{Feed, Intake, ReadFault, Reading, read_block, take_next};
 
-// The most bytes of a bundle up to its dividing line and with it, where the script is within the
+// The most bytes of a bundle up to its dividing line and with it, if the script is within the
 // limit. A dividing line has up to four.
-const MOST_UNDIVIDED: usize = MOST_BYTES + 4;
+const MAX_UNDIVIDED: usize = MAX_BYTES + 4;
 
 // How many bytes of a trace come while several workers read those before. Starting the workers
 // takes little time beside that.
 const SHARED_BLOCK: usize = 1 << 22;
 
 // How many bytes several workers read at least. The row that isn't whole is apart from them.
-const LEAST_SHARED: usize = SHARED_BLOCK / 2;
+const MIN_SHARED: usize = SHARED_BLOCK / 2;
 
 // A reader that has taken nothing, for the workers of a plan. A single worker reads each block as
 // it comes.
 fn reader_for(alloc: Global, plan: &ReadingPlan) -> Result<Reader, AllocError>
     ensures { IfOk result (λ r. (rest : List ℕ) → reads r rest ≡ trace_of rest) }
 {
-    let least = if plan.workers < 2 { 1 } else { LEAST_SHARED };
+    let least = if plan.workers < 2 { 1 } else { MIN_SHARED };
     Reader::new(alloc, plan.hash_key, plan.workers, least)
 }
 
@@ -375,7 +375,7 @@ fn trace_after<'a, R: Threads>(
             let intake = TraceIntake::begun(rt, alloc, plan, &first[..passed], trace)?;
             Ok(Some(intake))
         }
-        None if first.len() > MOST_UNDIVIDED => {
+        None if first.len() > MAX_UNDIVIDED => {
             let intake = TraceIntake::unread(rt, alloc, plan)?;
             Ok(Some(intake))
         }

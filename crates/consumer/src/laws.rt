@@ -31,22 +31,22 @@ pub fn has_division()
     ensures { (bundle : List ℕ) → (script trace : List ℕ) × Divides bundle script trace }
 {}
 
-/// Where a layout shows each run by one text, a script and a trace have one answer at most: bytes
-/// and a status, or a refusal, whose line is no part of it where there is no tree.
+/// If a layout shows each run by one text, a script and a trace have one answer at most: bytes
+/// and a status, or a refusal, whose line is no part of it if there is no tree.
 pub fn one_answer<L: Layout>()
     ensures { ShowsEach L.shows
         → (script trace : List ℕ) (a b : Result Shown Refusal)
         → IsAnswer L.shows script trace a → IsAnswer L.shows script trace b → IsSameAnswer a b }
 {}
 
-/// Where a layout shows each run, each script and trace have an answer.
+/// If a layout shows each run, each script and trace have an answer.
 pub fn has_answer<L: Layout>()
     ensures { ShowsEach L.shows
         → (script trace : List ℕ)
         → (a : Result Shown Refusal) × IsAnswer L.shows script trace a }
 {}
 
-/// What is replayed is the answer, and so is the first refusal, where the plan and memory have no
+/// What is replayed is the answer, and so is the first refusal, if the plan and memory have no
 /// part in it.
 pub fn replay_answers<L: Layout>()
     ensures shown { (script trace : List ℕ) (plan : Plan) (r : Replayed)

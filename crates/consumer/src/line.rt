@@ -30,7 +30,7 @@ pub struct Reason {
 }
 
 /// The most bytes of a reason's text.
-pub const MOST_TEXT: usize = 40;
+pub const MAX_REASON: usize = 40;
 
 /// Room for a text and two numbers with their labels.
 pub const ROOM: usize = 160;
@@ -46,7 +46,7 @@ pub type Line = ArrayString<ROOM>;
 /// reason_line(Reason { text, place }).as_str(); // `dreplay: trace refused: Trace 4 row 9`
 /// ```
 pub fn reason_line(reason: Reason) -> Line
-    requires { length reason.text.now ≤ MOST_TEXT }
+    requires { length reason.text.now ≤ MAX_REASON }
     ensures bytes { result.bytes ≡ reason_bytes reason }
     ensures room { array_string_len result < ROOM }
 {
@@ -58,7 +58,7 @@ pub fn reason_line(reason: Reason) -> Line
 
 // Appends where a fault is.
 fn push_place(line: &mut Line, place: Place)
-    requires { array_string_len line.old ≤ MOST_TEXT }
+    requires { array_string_len line.old ≤ MAX_REASON }
     ensures bytes { line.new.bytes ≡ line.old.bytes ++ place_bytes place }
     ensures room { array_string_len line.new < ROOM }
 {

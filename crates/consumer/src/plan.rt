@@ -9,7 +9,7 @@ use keyed_hash::HashKey;
 /// ```
 #[derive(Debug, Drop, PartialEq, Eq)]
 pub struct Plan {
-    /// How many workers there are, from 1 to `MOST_WORKERS`.
+    /// How many workers there are, from 1 to `MAX_WORKERS`.
     pub workers: u32,
     /// Which threads are in which group.
     pub groups: GroupPlan,
@@ -30,7 +30,7 @@ pub(crate) struct ReadingPlan {
 #[derive(Debug, Drop, PartialEq, Eq)]
 pub enum GroupPlan {
     /// The i-th thread, ascending, goes to group `i` modulo this number, which is from 1 to
-    /// `MOST_GROUPS`.
+    /// `MAX_GROUPS`.
     Dealt(u32),
     /// The threads of each group.
     Lists(Vec<Vec<i32>>),

@@ -85,7 +85,7 @@ impl<'a, R: Threads + Wait + Sync, L: Layout> Consumer<'a, R, L> {
         }
     }
 
-    // Runs what was asked for, says why where there is no answer, and returns the status.
+    // Runs what was asked for, says why if there is no answer, and returns the status.
     fn run_status<C: ScriptFiles, F: Feed + Send, S: Sink, E: Sink>(
         &self,
         files: &C,

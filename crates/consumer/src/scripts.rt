@@ -5,7 +5,7 @@ ghost use Rattle.d_parser.specs.{Numbers.AreSmall, Sizes.IsWithin, Tree.script_o
 ghost use Rattle.consumer.specs.{Judging.IsJudged, Scripts.HasTree, Scripts.IsUnread};
 
 use crate::refusal::Refusal;
-use d_lexer::{MOST_BYTES, lex};
+use d_lexer::{MAX_BYTES, lex};
 use d_parser::{Script, parse};
 use d_types::{TypedScript, check};
 use std::alloc::Global;
@@ -20,7 +20,7 @@ use std::alloc::Global;
 pub fn read_script(alloc: Global, script: &[u8]) -> Result<Script, Refusal>
     ensures read { MatchResult result (λ s. HasTree script.now (script_of s))
         (λ e. (e ≡ Refusal.Memory) ⊎ IsUnread script.now e) }
-    ensures few { IfOk result (λ s. IsWithin MOST_BYTES (script_of s)) }
+    ensures few { IfOk result (λ s. IsWithin MAX_BYTES (script_of s)) }
     ensures small { IfOk result (λ s. AreSmall (script_of s)) }
 {
     let tokens = lex(alloc, script)?;

@@ -15,7 +15,7 @@ use crate::plan::{EngineKind, GroupPlan, Plan};
 use clap::builder::ValueParser;
 use clap::error::ErrorKind;
 use clap::{Arg, ArgMatches, Command, value_parser};
-use shard_queue::{MOST_GROUPS, MOST_WORKERS};
+use shard_queue::{MAX_GROUPS, MAX_WORKERS};
 use std::alloc::{AllocError, Global};
 use std::env::Args;
 use std::io;
@@ -178,21 +178,21 @@ fn script_option<'a>(alloc: Global) -> Arg<'a>
 // The option -w: how many workers run.
 fn workers_option<'a>(alloc: Global) -> Arg<'a>
     ensures rule { rule_of result
-        ≡ number_option (codes "workers") 119 MOST_WORKERS (codes "4") }
+        ≡ number_option (codes "workers") 119 MAX_WORKERS (codes "4") }
     ensures local { result.global ≡ false }
 {
     let workers = with_default(option(alloc, "workers", 'w', "N", WORKERS), "4");
-    with_numbers(workers, MOST_WORKERS)
+    with_numbers(workers, MAX_WORKERS)
 }
 
 // The option -g: how many groups the threads are dealt into.
 fn groups_option<'a>(alloc: Global) -> Arg<'a>
     ensures rule { rule_of result
-        ≡ number_option (codes "groups") 103 MOST_GROUPS (codes "16") }
+        ≡ number_option (codes "groups") 103 MAX_GROUPS (codes "16") }
     ensures local { result.global ≡ false }
 {
     let groups = with_default(option(alloc, "groups", 'g', "N", GROUPS), "16");
-    with_numbers(groups, MOST_GROUPS)
+    with_numbers(groups, MAX_GROUPS)
 }
 
 // The option -e: the engine's name.
@@ -255,10 +255,10 @@ fn plan_in(alloc: Global, help: Help, matches: &ArgMatches<'_>) -> Result<Plan, 
     ensures { MatchResult result (IsPlanIn (rows_of (found_of matches.now)))
         (IsPlanFault (rows_of (found_of matches.now))) }
 {
-    let Some(workers) = number_named(matches, "workers", 1, MOST_WORKERS) else {
+    let Some(workers) = number_named(matches, "workers", 1, MAX_WORKERS) else {
         return Err(out_of_range(alloc, help));
     };
-    let Some(groups) = number_named(matches, "groups", 1, MOST_GROUPS) else {
+    let Some(groups) = number_named(matches, "groups", 1, MAX_GROUPS) else {
         return Err(out_of_range(alloc, help));
     };
     let Some(engine) = engine_named(matches) else {

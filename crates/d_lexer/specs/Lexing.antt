@@ -2,7 +2,7 @@
 -- Source: Dynamic Tracing Guide, "D Program Structure".
 use Rattle.std.specs.Prelude.{◌≡◌, ℕ, ◌<◌, ◌≤◌, ◌⊎◌, Bool, true, false, if◌then◌else◌, List}
 use Rattle.std.specs.Prelude.{[], ◌∷◌, length}
-use Rattle.d_lexer.specs.Vocabulary.{Token, TokenKind, Head, LexFault, Mark, MOST_BYTES}
+use Rattle.d_lexer.specs.Vocabulary.{Token, TokenKind, Head, LexFault, Mark, MAX_BYTES}
 use Rattle.d_lexer.specs.Places.{first_position}
 use Rattle.d_lexer.specs.{Tokens.Lexes, Faults.IsFault}
 
@@ -43,13 +43,13 @@ IsFirstFault bytes fault = (ts : List Token) × Lexes (IsFault fault) Head first
 
 -- the script is within the limit, and these are its tokens
 abbrev pub IsLexed : List ℕ → List Token → Type 0
-IsLexed bytes ts = (length bytes ≤ MOST_BYTES) × AreTokens bytes ts
+IsLexed bytes ts = (length bytes ≤ MAX_BYTES) × AreTokens bytes ts
 
 -- the script is too long, or else this is its first fault
 abbrev pub IsRefused : List ℕ → LexFault → Type 0
 IsRefused bytes fault =
-    ((fault ≡ LexFault.TooLong) × (MOST_BYTES < length bytes))
-    ⊎ ((length bytes ≤ MOST_BYTES) × IsFirstFault bytes fault)
+    ((fault ≡ LexFault.TooLong) × (MAX_BYTES < length bytes))
+    ⊎ ((length bytes ≤ MAX_BYTES) × IsFirstFault bytes fault)
 
 -- each script is one or the other
 abbrev pub HasOne : List ℕ → Type 0

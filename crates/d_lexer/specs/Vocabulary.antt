@@ -6,7 +6,7 @@ pub use Rattle.d_lexer.specs.declared.fault.Flaw.TheVariants.{BadByte, Unclosed,
 pub use Rattle.d_lexer.specs.declared.fault.Flaw.TheVariants.{OptionLine}
 pub use Rattle.d_lexer.specs.declared.fault.LexFault.{LexFault}
 pub use Rattle.d_lexer.specs.declared.fault.Stop.{Stop}
-pub use Rattle.d_lexer.specs.declared.fault.TheConstants.{MOST_BYTES}
+pub use Rattle.d_lexer.specs.declared.fault.TheConstants.{MAX_BYTES}
 pub use Rattle.d_lexer.specs.declared.front.Front.{Front}
 pub use Rattle.d_lexer.specs.declared.front.Front.TheVariants.{Gap}
 pub use Rattle.d_lexer.specs.declared.place.Place.{Place}

@@ -58,7 +58,7 @@ pub(crate) fn line_len(bytes: &[u8]) -> usize
     bytes.iter().take_while(|b| **b != b'\n').count()
 }
 
-/// How many bytes a comment has after its `/*`; none where it has no end.
+/// How many bytes a comment has after its `/*`; none if it has no end.
 #[tactic(auto, unfolding(crate::specs::Steps::Scan::comment_from), using(crate::proofs::Steps::longer_one))]
 pub(crate) fn comment_len(bytes: &[u8]) -> Option<usize>
     ensures is { result ≡ scan.comment_from bytes.now }

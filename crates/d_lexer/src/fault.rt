@@ -29,7 +29,7 @@ pub enum LexFault {
 }
 
 /// The most bytes that a script may have.
-pub const MOST_BYTES: usize = 65536;
+pub const MAX_BYTES: usize = 65536;
 
 impl LexFault {
     // The line that it names.

@@ -10,7 +10,7 @@ ghost use Rattle.d_lexer.specs.Places as spec;
 use crate::byte_kinds::{
     comment_len, is_blank, is_run_byte, is_word_start, line_len, next_is, word_len,
 };
-use crate::fault::{Flaw, MOST_BYTES, Stop};
+use crate::fault::{Flaw, MAX_BYTES, Stop};
 use crate::mark_table::mark_at;
 use crate::number::number_of;
 use crate::option_line::is_option;
@@ -94,7 +94,7 @@ fn token_at(alloc: Global, place: Place, b: u8, rest: &[u8]) -> Result<Front, St
 }
 
 fn comment_front(rest: &[u8]) -> Result<Front, Stop>
-    requires { length rest.now ≤ MOST_BYTES }
+    requires { length rest.now ≤ MAX_BYTES }
     ensures { Gives result (comment_front (comment_from rest.now)) }
 {
     match comment_len(rest) {
@@ -137,7 +137,7 @@ fn is_hash(place: Place, pos: Position, b: u8) -> bool
 
 #[tactic(auto, unfolding(crate::specs::Steps::Scan::front_at))]
 fn front_at(alloc: Global, place: Place, pos: Position, b: u8, rest: &[u8]) -> Result<Front, Stop>
-    requires { length rest.now ≤ MOST_BYTES }
+    requires { length rest.now ≤ MAX_BYTES }
     ensures { Gives result (front_at place pos b rest.now) }
 {
     if is_blank(b) {
@@ -161,7 +161,7 @@ pub(crate) fn look(
     b: u8,
     rest: &[u8],
 ) -> Result<Front, Stop>
-    requires { length rest.now ≤ MOST_BYTES }
+    requires { length rest.now ≤ MAX_BYTES }
     ensures is { Gives result (front_at place pos b rest.now) }
     ensures fits { IfOk result (λ f. FitsFront f (length rest.now)) }
 {

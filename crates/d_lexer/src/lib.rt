@@ -18,6 +18,6 @@ mod token;
 mod words;
 
 pub use byte_string::ByteString;
-pub use fault::{LexFault, MOST_BYTES};
+pub use fault::{LexFault, MAX_BYTES};
 pub use scanner::lex;
 pub use token::{Mark, Suffix, Token, TokenKind};

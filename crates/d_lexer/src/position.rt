@@ -4,7 +4,7 @@ ghost use Rattle.std.specs.Prelude.{◌≡◌, ◌+◌, ◌<◌, ◌≤◌, leng
 ghost use Rattle.d_lexer.specs.Places as spec;
 
 use crate::byte_kinds::is_space;
-use crate::fault::MOST_BYTES;
+use crate::fault::MAX_BYTES;
 
 /// How many bytes came before, the line, and whether the line has held only spaces and tabs so far.
 #[derive(Clone, Copy)]
@@ -26,8 +26,8 @@ impl Position {
     }
 
     pub(crate) fn pass(self, b: u8) -> Position
-        requires at { self.at < MOST_BYTES }
-        requires line { self.line ≤ MOST_BYTES }
+        requires at { self.at < MAX_BYTES }
+        requires line { self.line ≤ MAX_BYTES }
         ensures is { result ≡ spec.after_byte self b }
         ensures at { result.at ≡ self.at + 1 }
         ensures line { result.line ≤ self.line + 1 }
@@ -40,7 +40,7 @@ impl Position {
     }
 
     pub(crate) fn pass_all(self, bytes: &[u8]) -> Position
-        requires at { self.at + length bytes.now ≤ MOST_BYTES }
+        requires at { self.at + length bytes.now ≤ MAX_BYTES }
         requires line { self.line ≤ self.at + 1 }
         ensures is { result ≡ spec.position_after self bytes.now }
         ensures at { result.at ≡ self.at + length bytes.now }

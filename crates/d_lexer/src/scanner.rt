@@ -9,7 +9,7 @@ ghost use Rattle.d_lexer.specs.Places.{after_byte, first_position};
 ghost use Rattle.d_lexer.specs.Lexing as spec;
 
 use crate::closing_slash::settle;
-use crate::fault::{LexFault, MOST_BYTES, Stop};
+use crate::fault::{LexFault, MAX_BYTES, Stop};
 use crate::front::{Front, look};
 use crate::place::Place;
 use crate::position::Position;
@@ -39,7 +39,7 @@ fn step(
     rest: &[u8],
     tokens: &mut Vec<Token>,
 ) -> Result<(Place, usize), LexFault>
-    requires at { cursor.pos.at + length rest.now < MOST_BYTES }
+    requires at { cursor.pos.at + length rest.now < MAX_BYTES }
     ensures is { StepGives tokens.old.items tokens.new.items result
         (scan 0 cursor.place cursor.pos (b ∷ rest.now))
         (λ n q. scan n q (after_byte cursor.pos b) rest.now) }
@@ -69,7 +69,7 @@ fn step(
 // Passes this byte and n more.
 #[tactic(auto, using(crate::proofs::Lexing::scan_from))]
 fn jump(pos: Position, b: u8, rest: &[u8], n: usize) -> (Position, &[u8])
-    requires at { pos.at + length rest.now < MOST_BYTES }
+    requires at { pos.at + length rest.now < MAX_BYTES }
     requires line { pos.line ≤ pos.at + 1 }
     requires n { n ≤ length rest.now }
     ensures is { (q : Place) → scan 0 q result.0 result.1.now
@@ -83,7 +83,7 @@ fn jump(pos: Position, b: u8, rest: &[u8], n: usize) -> (Position, &[u8])
 
 // The tokens, whose slashes of a predicate are all read as closing ones.
 fn scan_tokens(alloc: Global, bytes: &[u8]) -> Result<Vec<Token>, LexFault>
-    requires { length bytes.now ≤ MOST_BYTES }
+    requires { length bytes.now ≤ MAX_BYTES }
     ensures { Answers (λ ts. ts.items) result (scan 0 Head first_position bytes.now) }
 {
     let mut tokens: Vec<Token> = Vec::new(alloc);
@@ -102,7 +102,7 @@ fn scan_tokens(alloc: Global, bytes: &[u8]) -> Result<Vec<Token>, LexFault>
 
 // The tokens, once it is known which slash closes a predicate.
 fn final_tokens(alloc: Global, bytes: &[u8]) -> Result<Vec<Token>, LexFault>
-    requires { length bytes.now ≤ MOST_BYTES }
+    requires { length bytes.now ≤ MAX_BYTES }
     ensures { Lexed (λ ts. ts.items) result (scan 0 Head first_position bytes.now) }
 {
     let mut tokens = scan_tokens(alloc, bytes)?;
@@ -119,7 +119,7 @@ fn final_tokens(alloc: Global, bytes: &[u8]) -> Result<Vec<Token>, LexFault>
 /// ```
 pub fn lex(alloc: Global, bytes: &[u8]) -> Result<Vec<Token>, LexFault>
     // Length is checked first: over 65,536 bytes are too long, whatever they hold.
-    ensures too_long { IsErrOf result LexFault.TooLong ↔ (MOST_BYTES < length bytes.now) }
+    ensures too_long { IsErrOf result LexFault.TooLong ↔ (MAX_BYTES < length bytes.now) }
 
     // Whatever is returned is right: the script's tokens, or its first fault.
     ensures ok { IfOk result (λ ts. spec.IsLexed bytes.now ts.items) }
@@ -130,10 +130,10 @@ pub fn lex(alloc: Global, bytes: &[u8]) -> Result<Vec<Token>, LexFault>
         → MatchResult result (λ v. v.items ≡ ts) (λ e. e ≡ LexFault.Memory) }
     ensures refused { (fault : LexFault) → spec.IsRefused bytes.now fault
         → IsErrAnd result (λ e. (e ≡ fault) ⊎ (e ≡ LexFault.Memory)) }
-    ensures few { IfOk result (λ ts. length ts.items ≤ MOST_BYTES) }
+    ensures few { IfOk result (λ ts. length ts.items ≤ MAX_BYTES) }
     ensures small { IfOk result (λ ts. HaveSmallNumbers ts.items) }
 {
-    if bytes.len() > MOST_BYTES {
+    if bytes.len() > MAX_BYTES {
         return Err(LexFault::TooLong);
     }
     final_tokens(alloc, bytes)

@@ -4,8 +4,8 @@ use Rattle.std.specs.Prelude.{◌≡◌, ◌<◌, ◌+◌, ◌⊎◌, ℕ, Bool,
 use Rattle.std.specs.Prelude.{count_by, Result, Ok, Err}
 use Rattle.std.specs.List.{list_any}
 use Rattle.d_parser.specs.Symbols.{same_mark}
-use Rattle.d_parser.specs.Vocabulary.{Mark, Token, TokenKind, ParseFault, MOST_OPEN, MOST_IN_A_ROW}
-use Rattle.d_parser.specs.Vocabulary.{MOST_CLAUSES}
+use Rattle.d_parser.specs.Vocabulary.{Mark, Token, TokenKind, ParseFault, MAX_OPEN, MAX_IN_A_ROW}
+use Rattle.d_parser.specs.Vocabulary.{MAX_CLAUSES}
 
 -- a mark of these
 abbrev pub is_among : List Mark → TokenKind → Bool
@@ -32,16 +32,16 @@ pub record IsDeep (ts : List Token) : Type 0 where
   pub later : List Token
   pub is : ts ≡ before ++ stretch ++ later
   pub deep :
-      (MOST_OPEN + how_many closes stretch < how_many opens stretch)
-      ⊎ ((MOST_IN_A_ROW < length stretch) × (how_many ends_row stretch ≡ 0))
+      (MAX_OPEN + how_many closes stretch < how_many opens stretch)
+      ⊎ ((MAX_IN_A_ROW < length stretch) × (how_many ends_row stretch ≡ 0))
 
 abbrev pub clauses : List Token → ℕ
 clauses ts = how_many (is_among (Mark.OpenBrace ∷ [])) ts
 
--- TooDeep and TooManyClauses are reported only where that limit is passed
+-- TooDeep and TooManyClauses are reported only if that limit is passed
 abbrev pub OnlyLimits : {X : Type 0} → List Token → Result X ParseFault → Type 0
 OnlyLimits ts (Ok x) = Unit {0}
 OnlyLimits ts (Err ParseFault.TooDeep) = IsDeep ts
-OnlyLimits ts (Err ParseFault.TooManyClauses) = MOST_CLAUSES < clauses ts
+OnlyLimits ts (Err ParseFault.TooManyClauses) = MAX_CLAUSES < clauses ts
 OnlyLimits ts (Err (ParseFault.Syntax line)) = Unit {0}
 OnlyLimits ts (Err ParseFault.Memory) = Unit {0}

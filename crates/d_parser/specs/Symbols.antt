@@ -1,4 +1,5 @@
 -- How a script writes operators and types.
+-- Source: Dynamic Tracing Guide, "Types, Operators, and Expressions".
 use Rattle.std.specs.Prelude.{Bool, ℕ, List, [], codes}
 use Rattle.std.specs.{List.find, Option.option_map_or}
 use denote.Enum.Bare.{sameb}

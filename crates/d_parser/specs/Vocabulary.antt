@@ -4,7 +4,7 @@ pub use Rattle.d_lexer.specs.declared.token.Token.{Token}
 pub use Rattle.d_lexer.specs.declared.token.TokenKind.{TokenKind}
 pub use Rattle.std.specs.Str.{bytes_eq}
 pub use Rattle.d_parser.specs.declared.fault.ParseFault.{ParseFault}
-pub use Rattle.d_parser.specs.declared.fault.TheConstants.{MOST_OPEN, MOST_IN_A_ROW, MOST_CLAUSES}
+pub use Rattle.d_parser.specs.declared.limits.TheConstants.{MAX_OPEN, MAX_IN_A_ROW, MAX_CLAUSES}
 pub use Rattle.d_parser.specs.declared.marks.Follow.{Follow}
 pub use Rattle.d_parser.specs.declared.marks.Prefix.{Prefix}
 pub use Rattle.d_parser.specs.declared.marks.TheConstants.{ASSIGNMENT, CONDITION, OR, XOR, AND}

@@ -4,6 +4,7 @@ ghost use Rattle.std.specs.Prelude.{◌≡◌};
 ghost use Rattle.d_parser.specs.declared.fault.ParseFault.TheVariants.{Memory};
 ghost use Rattle.d_parser.specs.Steps.Lines.{ending_on};
 
+use crate::limits::{MAX_CLAUSES, MAX_IN_A_ROW, MAX_OPEN};
 use std::alloc::{AllocError, AllocFailed};
 use thiserror::Error;
 
@@ -15,30 +16,21 @@ pub enum ParseFault {
     #[error("line {line}: not a D script")]
     Syntax { line: usize },
     /// More than 64 brackets open at once, or more than 1,024 tokens without `;`, `{` or `}`.
-    #[error("more than {MOST_OPEN} open brackets, or {MOST_IN_A_ROW} tokens in a row")]
+    #[error("more than {MAX_OPEN} open brackets, or {MAX_IN_A_ROW} tokens in a row")]
     TooDeep,
     /// More than 256 `{`.
-    #[error("more than {most} clauses", most = MOST_CLAUSES)]
+    #[error("more than {most} clauses", most = MAX_CLAUSES)]
     TooManyClauses,
     /// Memory ran out.
     #[error("out of memory")]
     Memory,
 }
 
-/// The most brackets and parentheses that may be open at once.
-pub const MOST_OPEN: usize = 64;
-
-/// The most tokens that a script may have without a semicolon or a brace between them.
-pub const MOST_IN_A_ROW: usize = 1024;
-
-/// The most clauses that a script may have.
-pub const MOST_CLAUSES: usize = 256;
-
 /// A line that isn't known yet; `ending_on` fills it in.
 pub(crate) const AT_END: usize = 0;
 
 impl ParseFault {
-    /// Gives a fault this line where it has none yet.
+    /// Gives a fault this line if it has none yet.
     pub(crate) fn ending_on(self, line: usize) -> ParseFault
         ensures { result ≡ ending_on line self }
     {

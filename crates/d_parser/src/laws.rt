@@ -10,7 +10,7 @@ pub fn one_script()
     ensures { (ts : List Token) (a b : List ItemTree) → IsScript a ts → IsScript b ts → a ≡ b }
 {}
 
-/// Where the numbers of tokens are below 2^64, those of their script are.
+/// If the numbers of tokens are below 2^64, those of their script are.
 pub fn numbers_are_small()
     ensures { (ts : List Token) (items : List ItemTree) → token.HaveSmallNumbers ts
         → IsScript items ts

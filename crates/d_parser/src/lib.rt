@@ -20,7 +20,8 @@ mod symbols;
 mod tree;
 mod words;
 
-pub use fault::{MOST_CLAUSES, MOST_IN_A_ROW, MOST_OPEN, ParseFault};
+pub use fault::ParseFault;
+pub use limits::{MAX_CLAUSES, MAX_IN_A_ROW, MAX_OPEN};
 pub use operators::{AssignOperator, BinaryOperator, LogicOperator, Step, UnaryOperator};
 pub use parser::parse;
 pub use tree::{

@@ -5,13 +5,21 @@ ghost use Rattle.d_parser.specs.Vocabulary.{Mark};
 ghost use Rattle.d_parser.specs.Steps.Depth as depth;
 ghost use Rattle.d_parser.specs.Limits as limits;
 
-use crate::fault::{MOST_IN_A_ROW, MOST_OPEN};
 use d_lexer::{Mark, Token, TokenKind};
 
+/// The most brackets and parentheses that may be open at once.
+pub const MAX_OPEN: usize = 64;
+
+/// The most tokens that a script may have without a semicolon or a brace between them.
+pub const MAX_IN_A_ROW: usize = 1024;
+
+/// The most clauses that a script may have.
+pub const MAX_CLAUSES: usize = 256;
+
 fn open_after(kind: &TokenKind, brackets: usize) -> usize
-    requires { brackets ≤ MOST_OPEN }
+    requires { brackets ≤ MAX_OPEN }
     ensures is { result ≡ depth.open_after kind.now brackets }
-    ensures small { result ≤ MOST_OPEN + 1 }
+    ensures small { result ≤ MAX_OPEN + 1 }
 {
     match kind {
         TokenKind::Mark(Mark::OpenParenthesis | Mark::OpenBracket) => brackets + 1,
@@ -21,9 +29,9 @@ fn open_after(kind: &TokenKind, brackets: usize) -> usize
 }
 
 fn row_with(kind: &TokenKind, row: usize) -> usize
-    requires { row ≤ MOST_IN_A_ROW }
+    requires { row ≤ MAX_IN_A_ROW }
     ensures is { result ≡ depth.row_with kind.now row }
-    ensures small { result ≤ MOST_IN_A_ROW + 1 }
+    ensures small { result ≤ MAX_IN_A_ROW + 1 }
 {
     match kind {
         TokenKind::Mark(Mark::Semicolon | Mark::OpenBrace | Mark::CloseBrace) => 0,
@@ -42,7 +50,7 @@ pub(crate) fn is_deep(tokens: &[Token]) -> bool
     while let [token, after @ ..] = rest {
         brackets = open_after(&token.kind, brackets);
         row = row_with(&token.kind, row);
-        if MOST_OPEN < brackets || MOST_IN_A_ROW < row {
+        if MAX_OPEN < brackets || MAX_IN_A_ROW < row {
             return true;
         }
         rest = after;

@@ -29,7 +29,7 @@ pub(crate) fn tokens_after(count: usize, tokens: &[Token]) -> &[Token] {
     rest
 }
 
-/// The line at which all tokens end; 1 where there are none.
+/// The line at which all tokens end; 1 if there are none.
 pub(crate) fn last_line(tokens: &[Token]) -> usize {
     match tokens {
         [.., token] => token.line,

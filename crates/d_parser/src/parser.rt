@@ -7,16 +7,16 @@ ghost use Rattle.d_parser.specs.Tree.{script_of, ItemTree};
 ghost use Rattle.d_parser.specs.Limits.{IsDeep, OnlyLimits, clauses};
 ghost use Rattle.d_lexer.specs.Small as token;
 
-use crate::fault::{MOST_CLAUSES, ParseFault};
-use crate::limits::{clauses, is_deep};
+use crate::fault::ParseFault;
+use crate::limits::{MAX_CLAUSES, clauses, is_deep};
 use crate::script::script;
 use crate::tree::Script;
-use d_lexer::{MOST_BYTES, Token};
+use d_lexer::{MAX_BYTES, Token};
 use std::alloc::Global;
 
 /// The tree of a script's tokens, as `d_lexer::lex` gives them.
 ///
-/// `TooDeep` is decided first, then `TooManyClauses`; `Syntax` comes exactly where the tokens have
+/// `TooDeep` is decided first, then `TooManyClauses`; `Syntax` comes exactly if the tokens have
 /// no tree.
 ///
 /// ```text
@@ -26,12 +26,12 @@ use std::alloc::Global;
 /// ```
 #[tactic(auto, using(crate::proofs::Answering::whole_script))]
 pub fn parse(alloc: Global, tokens: &[Token]) -> Result<Script, ParseFault>
-    requires few { length tokens.now ≤ MOST_BYTES }
+    requires few { length tokens.now ≤ MAX_BYTES }
     requires small { token.HaveSmallNumbers tokens.now }
     // Brackets and rows of tokens are checked first.
     ensures deep { IsDeep tokens.now → result ≡ Err ParseFault.TooDeep }
     // Then clauses are counted.
-    ensures many { ¬ IsDeep tokens.now → MOST_CLAUSES < clauses tokens.now
+    ensures many { ¬ IsDeep tokens.now → MAX_CLAUSES < clauses tokens.now
         → result ≡ Err ParseFault.TooManyClauses }
     // A limit is reported only where it is passed.
     ensures passed { OnlyLimits tokens.now result }
@@ -39,17 +39,17 @@ pub fn parse(alloc: Global, tokens: &[Token]) -> Result<Script, ParseFault>
     ensures found { IfOk result (λ s. IsScript (script_of s) tokens.now) }
     // Its descriptions, its statements, and its declarations with all places of variables are each
     // at most as many as a script may have bytes.
-    ensures few { IfOk result (λ s. IsWithin MOST_BYTES (script_of s)) }
+    ensures few { IfOk result (λ s. IsWithin MAX_BYTES (script_of s)) }
     // Its numbers are below 2^64, as those of the tokens are.
     ensures small { IfOk result (λ s. AreSmall (script_of s)) }
-    // Where there is a tree it is returned, and no other, unless memory runs out.
-    ensures only { ¬ IsDeep tokens.now → clauses tokens.now ≤ MOST_CLAUSES
+    // If there is a tree it is returned, and no other, unless memory runs out.
+    ensures only { ¬ IsDeep tokens.now → clauses tokens.now ≤ MAX_CLAUSES
         → (s : List ItemTree) → IsScript s tokens.now → Gives script_of result (Some s) }
 {
     if is_deep(tokens) {
         return Err(ParseFault::TooDeep);
     }
-    if MOST_CLAUSES < clauses(tokens) {
+    if MAX_CLAUSES < clauses(tokens) {
         return Err(ParseFault::TooManyClauses);
     }
     script(alloc, tokens)

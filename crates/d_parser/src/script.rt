@@ -11,7 +11,7 @@ use crate::fault::{AT_END, ParseFault};
 use crate::names::{last_line, syntax_at};
 use crate::tree::{Declaration, Item, Script};
 use crate::words::{WordKind, word_kind};
-use d_lexer::{ByteString, MOST_BYTES, Token, TokenKind};
+use d_lexer::{ByteString, MAX_BYTES, Token, TokenKind};
 use std::alloc::Global;
 
 /// What `self` or `this` declares.
@@ -75,7 +75,7 @@ fn items(alloc: Global, fuel: usize, tokens: &[Token]) -> Result<Vec<Item>, Pars
 /// The script that all tokens spell.
 #[tactic(auto, unfolding(crate::specs::Steps::ReadingScripts::script_reader))]
 pub(crate) fn script(alloc: Global, tokens: &[Token]) -> Result<Script, ParseFault>
-    requires { length tokens.now ≤ MOST_BYTES }
+    requires { length tokens.now ≤ MAX_BYTES }
     ensures { Gives script_of result (spec.script_reader tokens.now) }
 {
     match items(alloc, tokens.len() + 1, tokens) {

@@ -4,7 +4,7 @@ use Rattle.std.specs.Prelude.{None}
 use Rattle.d_types.specs.Vocabulary.{Int, Tree, Trees, DType, IntType, INT64, promoted_of, Answer}
 use Rattle.d_types.specs.Vocabulary.{BuiltIn, Space}
 use Rattle.d_types.specs.Vocabulary.{Callee, DeclaredType, DeclarationTree, StmtTree, ItemTree}
-use Rattle.d_types.specs.Vocabulary.{ClauseTree, Piece, MOST_KEYS, AggFn, Aggregating}
+use Rattle.d_types.specs.Vocabulary.{ClauseTree, Piece, MAX_KEYS, AggFn, Aggregating}
 use Rattle.d_types.specs.Typed.{Typed, Typeds, end, more, Action, Evaluate, Trace, Print, Exit}
 use Rattle.d_types.specs.Typed.{Aggregate, Agg, Aggs, ClauseMeant, ScriptMeant}
 use Rattle.d_types.specs.Needs.{count}
@@ -121,7 +121,7 @@ Stands rows t a after = Evaluates rows t a after
 -- the place of an aggregation: new, or with the keys and the function that it had
 abbrev pub IsPlaceOf : List ℕ → Typeds → Option AggFn → Aggs → ℕ → Aggs → Type 0
 IsPlaceOf name ks g aggs place after =
-    ((h : AggFn) × (find_from 0 name aggs ≡ None) × (nat_le (count ks) MOST_KEYS ≡ true)
+    ((h : AggFn) × (find_from 0 name aggs ≡ None) × (nat_le (count ks) MAX_KEYS ≡ true)
     × (g ≡ Some h) × (place ≡ length aggs)
     × (after ≡ aggs ++ record { name = name; keys = kinds_of_typed ks; function = h } ∷ []))
     ⊎ ((known : Agg) × (find_from 0 name aggs ≡ Some (place, known))
@@ -140,7 +140,7 @@ Aggregates name keys word args rows aggs a after known =
 
 abbrev pub Declares : Space → List ℕ → DeclaredType → List DeclaredType → Rows → Rows → Type 0
 Declares space name t keys rows after =
-    (find space name rows ≡ None) × (nat_le (length keys) MOST_KEYS ≡ true)
+    (find space name rows ≡ None) × (nat_le (length keys) MAX_KEYS ≡ true)
     × (after ≡ rows ++ record {
       space = space;
       word = name;

@@ -5,9 +5,9 @@ use Rattle.std.specs.Prelude.{◌≡◌, ◌≢◌, ◌≤◌, ◌⊎◌, ◌++�
 use Rattle.std.specs.Prelude.{map, Some, None, Result, Ok, Err}
 use Rattle.d_parser.specs.declared.tree.Variable.{Variable}
 use Rattle.d_types.specs.Vocabulary.{Int, Step, Tree, Trees, DType, INT64, Answer, Callee}
-use Rattle.d_types.specs.Vocabulary.{TypeFault, IntType, AggFn, Piece, Space, MOST_KEYS}
+use Rattle.d_types.specs.Vocabulary.{TypeFault, IntType, AggFn, Piece, Space, MAX_KEYS}
 use Rattle.d_types.specs.Vocabulary.{DeclarationTree, StmtTree, ItemTree, ClauseTree, DeclaredType}
-use Rattle.d_types.specs.Vocabulary.{REGISTERS, promoted_of, Constant, Variable as Slot}
+use Rattle.d_types.specs.Vocabulary.{MAX_NEED, promoted_of, Constant, Variable as Slot}
 use Rattle.d_types.specs.Formats as formats
 use Rattle.d_types.specs.Typed.{Typed, Typeds, end, more, Agg, Aggs, Action, ClauseMeant}
 use Rattle.d_types.specs.Typed.{ScriptMeant, Evaluate, Trace, Print, Exit, Aggregate}
@@ -42,7 +42,7 @@ gives x known answer = answer ≡ Ok (x, known)
 unfoldable pub refused : {A : Type 0} → TypeFault → Checked A
 refused fault known answer = answer ≡ Err fault
 
--- what the rule gives, with what is known by it; or this fault, where it gives nothing
+-- what the rule gives, with what is known by it; or this fault, if it gives nothing
 unfoldable pub by_change : {A : Type 0} → (Known → A → Known → Type 0) → TypeFault → Checked A
 by_change Rule fault known (Ok r) = Rule known r.0 r.1
 by_change Rule fault known (Err f) =
@@ -172,7 +172,7 @@ abbrev mutual
 abbrev pub whole : Tree → Checked Typed
 whole t = do
   x ← expression t
-  needs (λ known. need x ≤ REGISTERS) (TypeFault.NoRegister (line_of t))
+  needs (λ known. need x ≤ MAX_NEED) (TypeFault.NoRegister (line_of t))
   gives x
 
 abbrev pub wholes : Trees → Checked Typeds
@@ -225,7 +225,7 @@ placed line name keys g (Some (place, a)) = do
   needs (λ known. g ≡ Some a.function) (TypeFault.AggregationRedefined line)
   gives place
 placed line name keys g None = do
-  needs (λ known. count keys ≤ MOST_KEYS) (TypeFault.Keys line)
+  needs (λ known. count keys ≤ MAX_KEYS) (TypeFault.Keys line)
   h ← by_rule (λ h. g ≡ Some h) (TypeFault.LquantizeBounds line)
   appended (record { name = name; keys = kinds_of_typed keys; function = h })
 
@@ -259,7 +259,7 @@ predicate None = gives None
 predicate (Some t) = do
   x ← expression t
   needs (λ known. (u : IntType) × IsInteger x u) (TypeFault.Mismatch (line_of t))
-  needs (λ known. need x ≤ REGISTERS) (TypeFault.NoRegister (line_of t))
+  needs (λ known. need x ≤ MAX_NEED) (TypeFault.NoRegister (line_of t))
   gives (Some x)
 
 abbrev pub clause : ClauseTree → Checked ClauseMeant
@@ -272,7 +272,7 @@ clause c = do
 abbrev pub declared : Space → ℕ → List ℕ → DeclaredType → List DeclaredType → Checked (Unit {0})
 declared space line name t keys = do
   needs (λ known. find space name known.rows ≡ None) (TypeFault.Mismatch line)
-  by_change (λ known u after. (length keys ≤ MOST_KEYS) × (after.aggs ≡ known.aggs)
+  by_change (λ known u after. (length keys ≤ MAX_KEYS) × (after.aggs ≡ known.aggs)
       × (after.rows ≡ known.rows
       ++ new_row space name (Some (declared_type t)) (declared_kinds keys) ∷ []))
       (TypeFault.Keys line)

@@ -34,7 +34,7 @@ by_trees f = record { value = eval f; values = values_of f; key = keys_of f; typ
 -- ---- one statement
 
 module _ {E Es : Type 0} (by : Evaluation E Es) where
-  -- what an aggregating function is given, as a signed number; 0 where it takes nothing
+  -- what an aggregating function is given, as a signed number; 0 if it takes nothing
   abbrev pub argument_by : Option E → Variables → Outcome ℤ
   argument_by None vars = Has (pos 0) vars
   argument_by (Some a) vars =
@@ -70,7 +70,7 @@ effect_then (Has effect vars) go =
     let rest = go vars in run_with (effect ∷ rest.effects) rest.faulted rest.variables
 effect_then (Faults vars) go = run_with [] true vars
 
--- the statements where the word isn't 0
+-- the statements if the word isn't 0
 abbrev pub where_true : Outcome ℕ → (Variables → Ran) → Ran
 where_true (Has zero vars) go = run_with [] false vars
 where_true (Has (suc n) vars) go = go vars
@@ -137,12 +137,12 @@ module _ {E Es : Type 0} (by : Evaluation E Es) where
   statements_by [] vars = run_with [] false vars
   statements_by (action ∷ rest) vars = effect_then (effect_by by action vars) (statements_by rest)
 
-  -- the statements where the predicate isn't 0
+  -- the statements if the predicate isn't 0
   abbrev pub where_predicate : Option E → (Variables → Ran) → Variables → Ran
   where_predicate None go vars = go vars
   where_predicate (Some a) go vars = where_true (number_outcome (by.value a vars)) go
 
-  -- statements after a predicate, where this line stands for a fault
+  -- statements after a predicate, if this line stands for a fault
   abbrev pub run_by : List ℕ → Option E → List (ActionOf E Es) → Variables → Made
   run_by line predicate statements vars =
       run_result line (where_predicate predicate (statements_by statements) vars)

@@ -48,7 +48,7 @@ abbrev pub inverse : ℕ → ℕ
 inverse zero = 1
 inverse (suc n) = 0
 
--- the first where the word is 0, and else the second
+-- the first if the word is 0, and else the second
 abbrev pub at_zero : {A : Type 0} → ℕ → A → A → A
 at_zero zero a b = a
 at_zero (suc n) a b = b

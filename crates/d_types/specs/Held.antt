@@ -29,7 +29,7 @@ HasTypedBuiltIns f = (b : BuiltIn) → IsOf (type_of_built_in b) (built_in_value
 
 -- ---- variables
 
--- the type that the variable of a slot has, where one is known
+-- the type that the variable of a slot has, if one is known
 abbrev pub Slots : Type 0
 Slots = ℕ → Option DType
 

@@ -1,7 +1,7 @@
 -- What statements ask of their expressions, whatever the types of the script's variables: kinds,
 -- places and counts.
 use Rattle.std.specs.Prelude.{◌≡◌, ◌<◌, ◌≤◌, true, length, slice_get, All, Option, Some, None}
-use Rattle.d_types.specs.Vocabulary.{AggFn, MOST_KEYS}
+use Rattle.d_types.specs.Vocabulary.{AggFn, MAX_KEYS}
 use Rattle.d_types.specs.Variables.{kinds_of_typed}
 use Rattle.d_types.specs.Formats as formats
 use Rattle.d_types.specs.Typed.{Typed, Typeds, type_of, Action, Evaluate, Trace, Print, Exit}
@@ -19,7 +19,7 @@ HasArgument function (Some x) = IsSomeInteger (type_of x)
 abbrev pub Suits : Option Agg → Typeds → Option Typed → Type 0
 Suits None keys argument = ⊥
 Suits (Some a) keys argument =
-    (a.keys ≡ kinds_of_typed keys) × (count keys ≤ MOST_KEYS)
+    (a.keys ≡ kinds_of_typed keys) × (count keys ≤ MAX_KEYS)
     × HasArgument a.function argument
 
 -- each part is of the kind that its place asks for, and an aggregation is one of the script's

@@ -1,6 +1,6 @@
 -- What typed scripts mean.
 use Rattle.std.specs.Prelude.{List, Ok}
-use Rattle.d_types.specs.Vocabulary.{MOST_BYTES, AreSmall, IsWithin, ItemTree}
+use Rattle.d_types.specs.Vocabulary.{MAX_BYTES, AreSmall, IsWithin, ItemTree}
 use Rattle.d_types.specs.Typed.{ScriptMeant}
 use Rattle.d_types.specs.Checking.{IsChecked}
 
@@ -8,5 +8,5 @@ use Rattle.d_types.specs.Checking.{IsChecked}
 -- declarations and places of variables together, and its numbers are below 2 ^ 64
 abbrev pub IsMeant : ScriptMeant → Type 0
 IsMeant m =
-    (source : List ItemTree) × IsWithin MOST_BYTES source × AreSmall source
+    (source : List ItemTree) × IsWithin MAX_BYTES source × AreSmall source
     × IsChecked source (Ok m)

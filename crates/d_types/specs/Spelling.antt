@@ -3,13 +3,13 @@
 use Rattle.std.specs.Prelude.{◌≡◌, ℕ, zero, suc, ◌≤◌, ◌==◌, ◌⊎◌, if◌then◌else◌, List, []}
 use Rattle.std.specs.Prelude.{◌∷◌, ◌++◌, codes}
 use Rattle.std.specs.{List.AllByRecursion, Char.char_set_contains}
-use Rattle.d_types.specs.Vocabulary.{decimal, MOST_WIDTH, Letter, Conversion, Piece}
+use Rattle.d_types.specs.Vocabulary.{decimal, MAX_WIDTH, Letter, Conversion, Piece}
 
 abbrev pub IsOneOf : {A : Type 0} → A → List A → Type 0
 IsOneOf x [] = ⊥
 IsOneOf x (y ∷ others) = (x ≡ y) ⊎ IsOneOf x others
 
--- in decimal, or nothing where there is no width
+-- in decimal, or nothing if there is no width
 abbrev pub width_text : ℕ → List ℕ
 width_text zero = []
 width_text (suc n) = decimal (suc n)
@@ -32,7 +32,7 @@ IsConversion c text =
     (flags : List ℕ) × (size : List ℕ) × (l : ℕ)
     × AllByRecursion (λ f. IsOneOf f (codes "-0")) flags
     × (c.left ≡ char_set_contains flags 45) × (c.zeros ≡ char_set_contains flags 48)
-    × (c.width ≤ MOST_WIDTH) × IsOneOf size lengths × IsOneOf l (letters c.letter)
+    × (c.width ≤ MAX_WIDTH) × IsOneOf size lengths × IsOneOf l (letters c.letter)
     × (text ≡ codes "%" ++ (flags ++ (width_text c.width ++ (size ++ l ∷ []))))
 
 -- a byte stands for itself, but a percent sign is written twice

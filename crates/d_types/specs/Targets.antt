@@ -2,16 +2,16 @@
 -- Source: Dynamic Tracing Guide, "Variables".
 use Rattle.std.specs.Prelude.{ℕ, List, Option, Some, None}
 use Rattle.d_parser.specs.declared.tree.Variable.{Variable}
-use Rattle.d_types.specs.Vocabulary.{Int, DType, INT64, Kind, Space, MOST_KEYS, AssignOperator}
+use Rattle.d_types.specs.Vocabulary.{Int, DType, INT64, Kind, Space, MAX_KEYS, AssignOperator}
 use Rattle.d_types.specs.Variables.{Row, Rows, set_type}
 
 -- ---- variables that are assigned
 
 abbrev pub most_keys : Space → ℕ
-most_keys Space.Thread = MOST_KEYS
+most_keys Space.Thread = MAX_KEYS
 most_keys Space.Clause = 0
 
--- gives a slot its type where it has none
+-- gives a slot its type if it has none
 abbrev pub settle_slot : Option DType → ℕ → Option DType → Rows → Rows
 settle_slot None slot (Some t) rows = set_type slot t rows
 settle_slot _ slot _ rows = rows

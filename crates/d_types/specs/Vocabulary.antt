@@ -2,8 +2,8 @@
 pub use Rattle.aggregations.specs.LinearRanges.{linear_range}
 pub use Rattle.aggregations.specs.Table.{Contribution, contribution}
 pub use Rattle.aggregations.specs.declared.function.AggFn.{AggFn}
-pub use Rattle.aggregations.specs.declared.linear_range.TheConstants.{MOST_STEP}
-pub use Rattle.d_lexer.specs.declared.fault.TheConstants.{MOST_BYTES}
+pub use Rattle.aggregations.specs.declared.linear_range.TheConstants.{MAX_STEP}
+pub use Rattle.d_lexer.specs.declared.fault.TheConstants.{MAX_BYTES}
 pub use Rattle.d_lexer.specs.declared.token.Suffix.{Suffix}
 pub use Rattle.d_parser.specs.Numbers.{AreSmall}
 pub use Rattle.d_parser.specs.Sizes.{IsWithin, in_all}
@@ -48,8 +48,8 @@ pub use Rattle.d_types.specs.declared.effect.Effect.{Effect}
 pub use Rattle.d_types.specs.declared.fault.TypeFault.{TypeFault}
 pub use Rattle.d_types.specs.declared.format.Flags.{Flags}
 pub use Rattle.d_types.specs.declared.format.Place.{Place}
-pub use Rattle.d_types.specs.declared.format.TheConstants.{MOST_WIDTH}
-pub use Rattle.d_types.specs.declared.needs.TheConstants.{REGISTERS}
+pub use Rattle.d_types.specs.declared.limits.TheConstants.{MAX_WIDTH}
+pub use Rattle.d_types.specs.declared.limits.TheConstants.{MAX_NEED}
 pub use Rattle.d_types.specs.declared.typed.Answer.{Answer}
 pub use Rattle.d_types.specs.declared.typed.BuiltIn.{BuiltIn}
 pub use Rattle.d_types.specs.declared.typed.Conversion.{Conversion}
@@ -65,6 +65,6 @@ pub use Rattle.d_types.specs.declared.typed.TypedExpr.{end_of-TypedExpr, more_of
 pub use Rattle.d_types.specs.declared.typed.TypedStmt.{TypedStmt}
 pub use Rattle.d_types.specs.declared.typed.Variable.{Variable}
 pub use Rattle.d_types.specs.declared.variables.Entry.{Entry}
-pub use Rattle.d_types.specs.declared.variables.TheConstants.{MOST_KEYS}
+pub use Rattle.d_types.specs.declared.limits.TheConstants.{MAX_KEYS}
 pub use Rattle.d_types.specs.declared.words.Aggregating.{Aggregating}
 pub use Rattle.d_types.specs.declared.words.Callee.{Callee}

@@ -11,11 +11,12 @@ ghost use Rattle.d_types.specs.Steps.Aggregations as steps;
 
 use crate::action::wholes;
 use crate::fault::TypeFault;
+use crate::limits::MAX_KEYS;
 use crate::targets::copy_of;
 use crate::typed::{TypedAggregation, TypedExpr, TypedStmt};
-use crate::variables::{Entry, MOST_KEYS, fit, kinds_of};
+use crate::variables::{Entry, fit, kinds_of};
 use crate::words::{Aggregating, aggregating_named};
-use aggregations::{AggFn, LinearRange, MOST_STEP};
+use aggregations::{AggFn, LinearRange, MAX_STEP};
 use d_lexer::ByteString;
 use d_parser::{Constant, Expr, UnaryOperator};
 use d_values::DType;
@@ -93,7 +94,7 @@ fn step(e: &Expr) -> Option<u16>
     ensures { result ≡ steps.small (spec.natural (tree_of e.now)) }
 {
     match number_of(e) {
-        Some(value) if value <= MOST_STEP as u64 => Some(value as u16),
+        Some(value) if value <= MAX_STEP as u64 => Some(value as u16),
         _ => None,
     }
 }
@@ -211,7 +212,7 @@ fn find<'a>(aggs: &'a [TypedAggregation], name: &[u8]) -> Option<(usize, &'a Typ
     None
 }
 
-/// What a statement says of its aggregation, once the keys are typed. No function where the bounds
+/// What a statement says of its aggregation, once the keys are typed. No function if the bounds
 /// aren't in range.
 #[derive(Clone, Copy)]
 struct AggregationUse<'a> {
@@ -282,7 +283,7 @@ fn new_place(
 {
     let line = usage.line;
     let keys = usage.keys;
-    if keys.len() > MOST_KEYS {
+    if keys.len() > MAX_KEYS {
         return Err(TypeFault::Keys { line });
     }
     match usage.function {

@@ -1,4 +1,4 @@
-//! Assignments to a slot. None where the types don't fit.
+//! Assignments to a slot. None if the types don't fit.
 
 ghost use Rattle.std.specs.Prelude.{◌≡◌, IfOk, Some, None, option_map};
 ghost use Rattle.d_types.specs.Steps.Faults.{Gives, OnlyMemory};

@@ -1,4 +1,4 @@
-//! Calls in expressions. None where the arguments don't fit.
+//! Calls in expressions. None if the arguments don't fit.
 
 ghost use Rattle.std.specs.Prelude.{◌≡◌, IfOk, option_map, Some};
 ghost use Rattle.d_types.specs.Typed.{typed_of, typeds_of, type_of, Typed};

@@ -14,7 +14,7 @@ use crate::fault::TypeFault;
 use crate::typed::{TypedAggregation, TypedClause};
 use crate::typed_script::TypedScript;
 use crate::variables::{Entry, types_in};
-use d_lexer::MOST_BYTES;
+use d_lexer::MAX_BYTES;
 use d_parser::{Item, Script};
 use std::alloc::Global;
 
@@ -65,7 +65,7 @@ fn items(
 }
 
 fn typed_script(alloc: Global, script: Script) -> Result<TypedScript, TypeFault>
-    requires few { IsWithin MOST_BYTES (script_of script) }
+    requires few { IsWithin MAX_BYTES (script_of script) }
     requires small { AreSmall (script_of script) }
     ensures { Gives typed_script_of result (spec.script (script_of script)) }
 {
@@ -80,7 +80,7 @@ fn typed_script(alloc: Global, script: Script) -> Result<TypedScript, TypeFault>
     }
 }
 
-/// The typed script of a script that is well typed, with every register need at most `REGISTERS`,
+/// The typed script of a script that is well typed, with every register need at most `MAX_NEED`,
 /// else its first fault: parts come first, from the left to the right, then the construct itself,
 /// with the cause of lowest number. Every script that `parse` gives is small enough and has such
 /// numbers, and the typed script keeps that it does.
@@ -92,7 +92,7 @@ fn typed_script(alloc: Global, script: Script) -> Result<TypedScript, TypeFault>
 /// check(alloc, script); // Err(TypeFault::ReadOnly { line: 1 })
 /// ```
 pub fn check(alloc: Global, script: Script) -> Result<TypedScript, TypeFault>
-    requires few { IsWithin MOST_BYTES (script_of script) }
+    requires few { IsWithin MAX_BYTES (script_of script) }
     requires small { AreSmall (script_of script) }
     ensures { IsCheckOf (script_of script) result }
 {

@@ -11,7 +11,8 @@ use crate::action::action;
 use crate::aggregation::{WrittenAggregation, aggregate};
 use crate::expression::{expr, line_of};
 use crate::fault::TypeFault;
-use crate::needs::{REGISTERS, fits};
+use crate::limits::MAX_NEED;
+use crate::needs::fits;
 use crate::typed::{TypedAggregation, TypedClause, TypedExpr, TypedStmt};
 use crate::variables::Entry;
 use d_parser::{Clause, Description, Expr, Stmt};
@@ -26,7 +27,7 @@ fn test_of(alloc: Global, table: &mut Vec<Entry>, e: &Expr) -> Result<Option<Typ
     if x.type_of() == DType::Text {
         drop(x);
         Err(TypeFault::Mismatch { line: line_of(e) })
-    } else if fits(&x, REGISTERS) {
+    } else if fits(&x, MAX_NEED) {
         Ok(Some(x))
     } else {
         drop(x);

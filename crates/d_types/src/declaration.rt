@@ -10,8 +10,9 @@ ghost use Rattle.d_types.specs.Constants.{declared_kinds};
 
 use crate::constants::declared_type;
 use crate::fault::TypeFault;
+use crate::limits::MAX_KEYS;
 use crate::targets::{VariableName, copy_of};
-use crate::variables::{Entry, MOST_KEYS, find, kind_of};
+use crate::variables::{Entry, find, kind_of};
 use d_parser::{Declaration, DeclaredType};
 use d_values::Kind;
 use std::alloc::{AllocError, Global};
@@ -71,7 +72,7 @@ fn declare(
     match find(table, variable.space, variable.name.as_slice()) {
         Some(_) => Err(TypeFault::Mismatch { line }),
         None => {
-            if keys.len() > MOST_KEYS {
+            if keys.len() > MAX_KEYS {
                 return Err(TypeFault::Keys { line });
             }
             add_declared(alloc, table, variable, declared, keys)?;

@@ -18,7 +18,8 @@ use crate::assignments::{Assignee, StepOperator, assignment, step, type_at_once}
 use crate::calls::call;
 use crate::constants::{int_type, integer, type_of_constant};
 use crate::fault::TypeFault;
-use crate::needs::{REGISTERS, fits};
+use crate::limits::MAX_NEED;
+use crate::needs::fits;
 use crate::operations::{as_type, binary, choice, unary};
 use crate::targets::{line_of_variable, read, space_of, target};
 use crate::typed::{Answer, TypedExpr};
@@ -461,7 +462,7 @@ pub(crate) fn whole(alloc: Global, table: &mut Vec<Entry>, e: &Expr) -> Result<T
         (spec.whole (rows_of_entries table.old.items) (tree_of e.now)) }
 {
     let x = expr(alloc, table, e)?;
-    if fits(&x, REGISTERS) {
+    if fits(&x, MAX_NEED) {
         Ok(x)
     } else {
         drop(x);

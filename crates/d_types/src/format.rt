@@ -7,12 +7,10 @@ ghost use Rattle.d_types.specs.Formats as spec;
 ghost use Rattle.d_types.specs.Steps.Formats as steps;
 
 use crate::fault::TypeFault;
+use crate::limits::MAX_WIDTH;
 use crate::typed::{Conversion, Letter, Piece, TypedExpr};
 use d_values::DType;
 use std::alloc::Global;
-
-/// The greatest width of a conversion.
-pub const MOST_WIDTH: u16 = 255;
 
 /// A conversion as far as it was read.
 #[derive(Clone, Copy)]
@@ -46,7 +44,7 @@ pub enum Place {
     Sized(Flags),
 }
 
-/// What a byte does: where the next one is, and the piece that it ends. None where the byte can't
+/// What a byte does: where the next one is, and the piece that it ends. None if the byte can't
 /// be there.
 type Turn = Option<(Place, Option<Piece>)>;
 
@@ -99,7 +97,7 @@ fn at_width(flags: Flags, byte: u8) -> Turn
         return at_length(flags, byte);
     }
     let width = u16::from(flags.width) * 10 + u16::from(byte - b'0');
-    if width > MOST_WIDTH {
+    if width > MAX_WIDTH {
         return None;
     }
     let width = width as u8;
@@ -152,7 +150,7 @@ fn add(pieces: &mut Vec<Piece>, ended: Option<Piece>) -> Result<(), TypeFault>
     Ok(())
 }
 
-/// The pieces of a format. None where it has an unknown conversion.
+/// The pieces of a format. None if it has an unknown conversion.
 pub(crate) fn pieces(alloc: Global, format: &[u8]) -> Result<Option<Vec<Piece>>, TypeFault>
     ensures ok { IfOk result (λ ps. option_map (λ v. v.items) ps ≡ steps.pieces format.now) }
     ensures err { OnlyMemory result }

@@ -1,7 +1,7 @@
 //! Laws of typing: what checks, typed scripts and formats have in common.
 
 ghost use Rattle.std.specs.Prelude.{◌≡◌, ◌≤◌, ◌^◌, ℕ, List, Result, Err, length};
-ghost use Rattle.d_types.specs.Vocabulary.{MOST_BYTES, in_all, Firing, Piece, ItemTree, TypeFault};
+ghost use Rattle.d_types.specs.Vocabulary.{MAX_BYTES, in_all, Firing, Piece, ItemTree, TypeFault};
 ghost use Rattle.d_types.specs.{Checking.IsChecked, Clauses.run_of, Fitting.ScriptFits};
 ghost use Rattle.d_types.specs.{Proper.IsProperScript, Scripts.IsMeant, Spelling.SpellsFormat};
 ghost use Rattle.d_types.specs.{Storage.Variables};
@@ -27,7 +27,7 @@ pub fn six_registers()
 /// A typed script has at most 65,536 descriptions, as many statements, and as many places of
 /// variables, all clauses together.
 pub fn sizes_kept()
-    ensures { (m : ScriptMeant) → ∥ IsMeant m ∥₁ → HasAtMost MOST_BYTES m }
+    ensures { (m : ScriptMeant) → ∥ IsMeant m ∥₁ → HasAtMost MAX_BYTES m }
 {}
 
 /// In a typed script predicates and statuses are integers, each conversion has an argument of its

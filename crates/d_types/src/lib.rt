@@ -17,6 +17,7 @@ mod fault;
 mod format;
 mod kinds;
 pub mod laws;
+mod limits;
 pub mod meaning;
 mod needs;
 mod operations;
@@ -30,10 +31,10 @@ pub use aggregations::{AggFn, LinearRange};
 pub use checking::check;
 pub use effect::Effect;
 pub use fault::TypeFault;
-pub use needs::REGISTERS;
+pub use limits::{MAX_KEYS, MAX_NEED};
 pub use typed::{
     Answer, BuiltIn, Conversion, Letter, Operation, Piece, Space, TypedAggregation, TypedClause,
     TypedExpr, TypedStmt, Variable,
 };
 pub use typed_script::TypedScript;
-pub use variables::{MOST_KEYS, kind_of};
+pub use variables::kind_of;

@@ -53,7 +53,7 @@ pub fn scripts_are_consistent()
 {}
 
 /// `x[keys] op= e`, of an integer variable that holds values of its type, is `x[keys] = x[keys] op
-/// e`, where evaluating the keys twice is evaluating them once: so it is where nothing is assigned
+/// e`, if evaluating the keys twice is evaluating them once: so it is if nothing is assigned
 /// in them, as in constants, built-ins, variables and operators on them, and where there are none.
 /// `x[keys]` is read before e is evaluated, and both are converted as in the operation. `++x[keys]`
 /// is `x[keys] += 1`, and `--x[keys]` is `x[keys] -= 1`, whatever the keys. After x they make the

@@ -7,9 +7,6 @@ ghost use Rattle.d_types.specs.Needs as spec;
 use crate::typed::TypedExpr;
 use d_parser::LogicOperator;
 
-/// The most registers that an expression may need.
-pub const REGISTERS: usize = 6;
-
 /// Whether there are registers enough for keys, each of whose values is kept until all are there.
 #[cycle(needs)]
 fn keys_fit(keys: &[TypedExpr], registers: usize) -> bool

@@ -1,4 +1,4 @@
-//! What operators make of typed operands. None where they don't take such operands.
+//! What operators make of typed operands. None if they don't take such operands.
 //!
 //! Operands that aren't taken are dropped by name, and the next result holds one while it is made:
 //! in each function that drops a tree at a scope's end, a proof goes through the tree's variants.

@@ -11,8 +11,9 @@ ghost use Rattle.d_types.specs.Steps.Targets as steps;
 ghost use Rattle.d_types.specs.Lines.{line_of_variable};
 
 use crate::fault::TypeFault;
+use crate::limits::MAX_KEYS;
 use crate::typed::{BuiltIn, Space, TypedExpr, Variable};
-use crate::variables::{Entry, MOST_KEYS, find, keys_fit, kinds_of, set_type, type_at};
+use crate::variables::{Entry, find, keys_fit, kinds_of, set_type, type_at};
 use crate::words::built_in;
 use d_lexer::ByteString;
 use d_values::DType;
@@ -187,7 +188,7 @@ fn most_keys(space: Space) -> usize
     ensures { result ≡ spec.most_keys space }
 {
     match space {
-        Space::Thread => MOST_KEYS,
+        Space::Thread => MAX_KEYS,
         Space::Clause => 0,
     }
 }

@@ -121,7 +121,7 @@ pub enum Letter {
     Text,
 }
 
-/// A conversion of a format. The width is 0 where there is none.
+/// A conversion of a format. The width is 0 if there is none.
 #[derive(Clone, Copy, Debug, PartialEq, Eq)]
 pub struct Conversion {
     /// `-`: put left.
@@ -170,7 +170,7 @@ pub struct TypedClause {
     pub statements: Vec<TypedStmt>,
 }
 
-/// An aggregation of a script: its name (`_` where it has none), the kinds of its keys, and its
+/// An aggregation of a script: its name (`_` if it has none), the kinds of its keys, and its
 /// function.
 #[derive(Drop)]
 pub struct TypedAggregation {

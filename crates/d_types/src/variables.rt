@@ -11,9 +11,6 @@ use d_lexer::ByteString;
 use d_values::{DType, Kind};
 use std::alloc::{AllocError, Global};
 
-/// The most keys of a thread-local variable or of an aggregation.
-pub const MOST_KEYS: usize = 8;
-
 /// A variable. Its keys are known before its type.
 #[derive(Drop)]
 pub struct Entry {

@@ -25,7 +25,7 @@ as_kind Kind.Text value = Text (bytes_of value)
 -- ---- variables
 
 -- what the clauses of a firing share, and what the firing's thread keeps: each variable's value,
--- and for the thread's at each key, zero or the empty text where nothing was assigned
+-- and for the thread's at each key, zero or the empty text if nothing was assigned
 pub record Variables : Type 0 where
   pub locals : Var → Value
   pub own : Var → List KeyPart → Value

@@ -12,7 +12,7 @@ use Rattle.d_values.specs.declared.operators.ArithmeticOperator.TheVariants.{Sub
 use Rattle.d_values.specs.declared.operators.ArithmeticOperator.TheVariants.{BitXor, BitOr}
 use Rattle.d_values.specs.declared.operators.ShiftOperator.TheVariants.{Left, Right}
 
--- the lowest bits of a type as a word: ones above them where their sign is set
+-- the lowest bits of a type as a word: ones above them if their sign is set
 abbrev pub sign_extension : IntType → ℕ → ℕ
 sign_extension t low =
     if t.signed && nat_le (2 ^ (t.width - 1)) low then low + (2 ^ 64 - 2 ^ t.width) else low

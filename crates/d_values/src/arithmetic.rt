@@ -12,7 +12,7 @@ use crate::word::narrow_word;
 #[derive(Clone, Copy, Debug, PartialEq, Eq)]
 pub struct OutOfZero;
 
-/// The operator's result in the type that both operands have. Refused exactly where `/` or `%` has
+/// The operator's result in the type that both operands have. Refused exactly if `/` or `%` has
 /// 0 on its right.
 ///
 /// ```text

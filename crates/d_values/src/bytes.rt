@@ -2,7 +2,7 @@
 
 ghost use Rattle.std.specs.Prelude.{◌≡◌, ◌≢◌, ◌∷◌, ◌++◌, All, MatchOption};
 
-/// The bytes before and after the first mark, where there is one.
+/// The bytes before and after the first mark, if there is one.
 ///
 /// ```text
 /// split_at_first(b"a=b=c", b'='); // Some((b"a", b"b=c"))

@@ -10,14 +10,14 @@ use indexmap::IndexMap;
 use std::hash::BuildHasher;
 
 // The first few entries are compared one by one, which costs less than a look-up.
-const FEW: usize = 8;
+const MAX_COMPARED: usize = 8;
 
 /// The index of the variable's entry.
 pub(crate) fn index_of<V, S: BuildHasher>(map: &IndexMap<Var, V, S>, var: Var) -> Option<usize>
     ensures { MatchOption result (get same_var map.now var ≡ None)
         (λ i. IsVarAt map.now.entries i var) }
 {
-    for index in 0..map.len().min(FEW) {
+    for index in 0..map.len().min(MAX_COMPARED) {
         if is_at(map, index, var) {
             return Some(index);
         }

@@ -40,7 +40,7 @@ impl Text {
         }
     }
 
-    /// A copy of the bytes. Err where memory was refused.
+    /// A copy of the bytes. Err if memory was refused.
     ///
     /// ```text
     /// Text::from_slice(alloc, b"cat")?.as_bytes(); // b"cat"
@@ -75,7 +75,7 @@ impl Text {
         bytes
     }
 
-    /// Takes these bytes in place of its own, reusing its room where they fit.
+    /// Takes these bytes in place of its own, reusing its room if they fit.
     ///
     /// ```text
     /// let mut text = Text::from_slice(alloc, b"cat")?;
@@ -107,7 +107,7 @@ impl Text {
 }
 
 // How many bytes a text of the language has at most.
-const TEXT_LIMIT: usize = 255;
+const MAX_TEXT: usize = 255;
 
 /// Both texts joined, cut to the first 255 bytes.
 ///
@@ -117,8 +117,8 @@ const TEXT_LIMIT: usize = 255;
 pub fn join_text(alloc: Global, a: &[u8], b: &[u8]) -> Result<Text, AllocError>
     ensures { IfOk result (λ t. t ≡ joined_text a.now b.now) }
 {
-    let first = &a[..a.len().min(TEXT_LIMIT)];
-    let second = &b[..b.len().min(TEXT_LIMIT - first.len())];
+    let first = &a[..a.len().min(MAX_TEXT)];
+    let second = &b[..b.len().min(MAX_TEXT - first.len())];
     let mut text = Text::from_slice(alloc, first)?;
     text.bytes.extend_from_slice(second)?;
     Ok(text)

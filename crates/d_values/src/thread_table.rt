@@ -19,7 +19,7 @@ use std::alloc::{AllocError, Global};
 use std::marker::Model;
 
 // Most threads have few variables: up to this number, they take no more room than they need.
-const FEW: usize = 4;
+const MAX_EXACT: usize = 4;
 
 /// The thread-local variables of a thread (Guide, "Thread-Local Variables"), scalars under the
 /// empty key. What was never set reads as zero or the empty text.
@@ -81,7 +81,7 @@ impl ThreadTable {
         find(&self.variables, var, key)
     }
 
-    /// Sets the variable under the key, to a value of its kind. The key is cloned only where
+    /// Sets the variable under the key, to a value of its kind. The key is cloned only if
     /// nothing was set.
     ///
     /// ```text
@@ -130,7 +130,7 @@ impl ThreadTable {
         find_last(&self.variables, var, key)
     }
 
-    /// Sets what `last` returns, to a value of the variable's kind. It gives the value back where
+    /// Sets what `last` returns, to a value of the variable's kind. It gives the value back if
     /// `last` returns none, and changes nothing. Takes no memory.
     ///
     /// ```text
@@ -180,7 +180,7 @@ fn find<'a>(variables: &'a IndexMap<Var, Held, HashKey>, var: Var, key: &Key) ->
     }
 }
 
-// What a variable has at the key of these parts, where that is the element that was used last.
+// What a variable has at the key of these parts, if that is the element that was used last.
 fn find_last<'a, K: KeyParts>(
     variables: &'a IndexMap<Var, Held, HashKey>,
     var: Var,
@@ -226,7 +226,7 @@ fn put(
     start(variables, rooms, var, key, value)
 }
 
-// Sets what a variable has at the key of these parts, where that is the element that was used last.
+// Sets what a variable has at the key of these parts, if that is the element that was used last.
 fn put_last<K: KeyParts>(
     variables: &mut IndexMap<Var, Held, HashKey>,
     rooms: &mut Vec<Key>,
@@ -268,7 +268,7 @@ fn start(
     held.set(rooms, key, value)?;
     held.shrink_to_fit();
     variables.insert(var, held)?;
-    if variables.len() <= FEW {
+    if variables.len() <= MAX_EXACT {
         variables.shrink_to_fit();
     }
     Ok(())

@@ -29,6 +29,6 @@ json_string text = codes "\"" ++ flat_map json_escape text ++ codes "\""
 abbrev pub in_hex : List ℕ → List ℕ
 in_hex text = codes "{\"hex\":\"" ++ flat_map hex_digits text ++ codes "\"}"
 
--- a string where the text is UTF-8, as JSON's strings have to be
+-- a string if the text is UTF-8, as JSON's strings have to be
 abbrev pub text_value : List ℕ → List ℕ
 text_value text = if is_utf8 text then json_string text else in_hex text

@@ -23,7 +23,7 @@ pub(crate) fn close(draft: &mut Difo, branch: usize, condition: Condition, jump:
     draft.code[jump] = Instr::Ba(draft.code.len());
 }
 
-/// Adds code for 1 where a branch after the test is taken, and else 0.
+/// Adds code for 1 if a branch after the test is taken, and else 0.
 pub(crate) fn put_bit(
     draft: &mut Difo,
     test: Instr,

@@ -144,7 +144,7 @@ fn emit_logic(
     }
 }
 
-// The second operand is computed where the first is true, else the value is 0.
+// The second operand is computed if the first is true, else the value is 0.
 #[cycle(emission)]
 fn emit_and(draft: &mut Difo, a: &TypedExpr, b: &TypedExpr, r: u8) -> Result<(), AllocError>
     requires few { r + max (need (typed_of a.now)) (need (typed_of b.now)) ≤ 7 }
@@ -166,7 +166,7 @@ fn emit_and(draft: &mut Difo, a: &TypedExpr, b: &TypedExpr, r: u8) -> Result<(),
     Ok(())
 }
 
-// The second operand is computed where the first is false, else the value is 1.
+// The second operand is computed if the first is false, else the value is 1.
 #[cycle(emission)]
 fn emit_or(draft: &mut Difo, a: &TypedExpr, b: &TypedExpr, r: u8) -> Result<(), AllocError>
     requires few { r + max (need (typed_of a.now)) (need (typed_of b.now)) ≤ 7 }

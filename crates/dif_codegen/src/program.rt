@@ -22,7 +22,7 @@ impl TypedObject {
     ghost use Rattle.dif_machine.specs.Runs.{RunEnds, value_result};
 
     /// Runs it for a firing, in a frame that may have served other runs, and lends what it returns.
-    /// The variables keep the writes so far, even after a fault or where memory was refused.
+    /// The variables keep the writes so far, even after a fault or if memory was refused.
     ///
     /// ```text
     /// // of `timestamp`, where the firing's time is 1000

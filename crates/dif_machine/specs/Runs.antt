@@ -1,4 +1,6 @@
 -- Whole runs.
+-- Source: Cantrill, Shapiro and Leventhal, "Dynamic Instrumentation of Production Systems" (USENIX
+-- 2004), on DIF.
 use Rattle.std.specs.Prelude.{◌≡◌, ◌≤◌, ℕ, suc, length, Result, Ok, Err}
 use Rattle.dif_machine.specs.Vocabulary.{Firing, MachineFault, DivideByZero, Memory, Object, Value}
 use Rattle.dif_machine.specs.Vocabulary.{ValueRef, lent_value, Variables}
@@ -38,7 +40,7 @@ EndsBy (Ends value after) end = end ≡ Returns value after
 EndsBy (Faults after) end = end ≡ Divides after
 EndsBy next end = ⊥
 
--- what a run returns and leaves: where memory ran out, the variables as a state has them that it
+-- what a run returns and leaves: if memory ran out, the variables as a state has them that it
 -- came to
 abbrev pub RunEnds : Object → Firing → Variables → Result Value MachineFault → Variables → Type 0
 RunEnds o f vars (Ok value) after = Runs o f vars (Returns value after)

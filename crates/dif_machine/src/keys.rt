@@ -135,7 +135,7 @@ fn room_for(cells: &[Cell]) -> usize
     }
 }
 
-// Gives a key this number of parts: where it has another, it becomes one of zeros.
+// Gives a key this number of parts: if it has another, it becomes one of zeros.
 fn resize(alloc: Global, key: &mut Key, parts: usize) -> Result<(), AllocError>
     ensures { OnOk result (length key.new ≡ parts) }
 {

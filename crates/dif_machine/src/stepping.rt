@@ -20,7 +20,7 @@ use crate::stepping::integers::Operands;
 use d_values::{ClauseLocals, ThreadTable};
 use dif_validate::{Instr, Reg};
 
-/// One instruction. Returns the register that has the value where it ends the run.
+/// One instruction. Returns the register that has the value if it ends the run.
 pub(crate) fn step(
     context: Context<'_>,
     frame: &mut Frame,

@@ -3,7 +3,7 @@ use Rattle.std.specs.Prelude.{ℕ, Bool, true, false, not, ◌||◌, nat_le, nat
 use Rattle.std.specs.Prelude.{length, Option, Some, None, slice_get}
 use Rattle.dif_validate.specs.Vocabulary.{DifFault, Backward, OutOfCode, RegisterKind, Unset}
 use Rattle.dif_validate.specs.Vocabulary.{TupleShape, TableIndex, Variable, Flow, Next, Jump}
-use Rattle.dif_validate.specs.Vocabulary.{Either, End, Instr, LAST_BUILT_IN, Kind, Object, Shape}
+use Rattle.dif_validate.specs.Vocabulary.{Either, End, Instr, MAX_BUILT_IN, Kind, Object, Shape}
 use Rattle.dif_validate.specs.Vocabulary.{at}
 use Rattle.dif_validate.specs.Vocabulary.{Named, NoName, NumberAt, TextAt, VariableAt, ArrayAt}
 use Rattle.dif_validate.specs.Rows.{row_of}
@@ -46,7 +46,7 @@ abbrev pub is_no_variable : Named → Bool
 is_no_variable NoName = false
 is_no_variable (NumberAt i) = false
 is_no_variable (TextAt i) = false
-is_no_variable (VariableAt v) = nat_lt LAST_BUILT_IN v
+is_no_variable (VariableAt v) = nat_lt MAX_BUILT_IN v
 is_no_variable (ArrayAt v) = nat_lt 0 v
 
 abbrev pub misses_variable : Instr → Bool
@@ -72,11 +72,11 @@ misses_tuple i (Some tuple) = not (takes_tuple i tuple)
 
 -- ---- the fault
 
--- the fault where this is so, else what is left
+-- the fault if this is so, else what is left
 abbrev pub if_so : Bool → DifFault → Option DifFault → Option DifFault
 if_so wrong fault rest = if wrong then Some fault else rest
 
--- the fault of an instruction where this is known and an earlier `ret` returns that kind
+-- the fault of an instruction if this is known and an earlier `ret` returns that kind
 abbrev pub fault_in : Instr → ℕ → Option Kind → Shape → Option DifFault
 fault_in i pc kind s =
     if_so (finds_other (asks i) s || returns_other i kind s) (RegisterKind pc)

@@ -42,7 +42,7 @@ join None way = way
 join (Some s) None = Some s
 join (Some s) (Some t) = Some (meet s t)
 
--- what the instruction at q, where s is known, makes known at pc as its next one
+-- what the instruction at q, if s is known, makes known at pc as its next one
 abbrev pub to_next : Instr → ℕ → Shape → ℕ → Option Shape
 to_next i q s pc =
     if falls i && nat_eq (q + 1) pc then Some (leaves i s) else None

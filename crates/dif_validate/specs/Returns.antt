@@ -5,7 +5,7 @@ use Rattle.dif_validate.specs.Vocabulary.{Flow, Next, Jump, Either, End, Instr, 
 use Rattle.dif_validate.specs.Vocabulary.{at}
 use Rattle.dif_validate.specs.Flow.{flow, before}
 
--- the kind that an instruction returns where this is known
+-- the kind that an instruction returns if this is known
 abbrev pub returns_by : Flow → Shape → Option Kind
 returns_by Next s = None
 returns_by (Jump to) s = None

@@ -25,7 +25,7 @@ pub use Rattle.dif_validate.specs.declared.instruction.Operator.{Operator}
 pub use Rattle.dif_validate.specs.declared.instruction.Operator.TheVariants.{Or, Xor, And, Sll, Srl}
 pub use Rattle.dif_validate.specs.declared.instruction.Operator.TheVariants.{Sra, Sub, Add, Mul}
 pub use Rattle.dif_validate.specs.declared.instruction.Operator.TheVariants.{Sdiv, Udiv, Srem, Urem}
-pub use Rattle.dif_validate.specs.declared.instruction.TheConstants.{LAST_BUILT_IN}
+pub use Rattle.dif_validate.specs.declared.instruction.TheConstants.{MAX_BUILT_IN}
 pub use Rattle.dif_validate.specs.declared.register.Reg.{Reg}
 pub use Rattle.dif_validate.specs.declared.register.Reg.TheVariants.{R0, R1, R2, R3, R4, R5, R6, R7}
 pub use Rattle.dif_validate.specs.declared.row.Asks.{Asks}

@@ -70,7 +70,7 @@ pub enum Function {
 }
 
 /// The number of `probename`, the last of the built-in variables that `ldgs` reads.
-pub const LAST_BUILT_IN: u8 = 8;
+pub const MAX_BUILT_IN: u8 = 8;
 
 /// One instruction.
 #[derive(Clone, Copy, PartialEq, Eq)]
@@ -98,7 +98,7 @@ pub enum Instr {
     /// `ldgs v, d`:     `d = built_ins[v]`: timestamp, cpu, pid, tid, execname, probeprov,
     /// probemod, probefunc, probename
     Ldgs(u8, Reg),
-    /// `ldga v, a, d`:  `d = arguments[a]`, 0 where `a` is over 9; `v` is 0
+    /// `ldga v, a, d`:  `d = arguments[a]`, 0 if `a` is over 9; `v` is 0
     Ldga(u8, Reg, Reg),
     /// `ldts x, d`:     `d = self->x`
     Ldts(Var, Reg),

@@ -182,7 +182,7 @@ fn replay_refuses_lists_that_are_no_groups(rt: HostRuntime) -> Result<(), Fail> 
     Ok(())
 }
 
-// What becomes of a bundle, and what is written, where these many calls of the reader and of the
+// What becomes of a bundle, and what is written, if these many calls of the reader and of the
 // writer go well. Each call moves a byte.
 fn consumed<R: AllocGlobal + Threads + Wait + Sync>(
     rt: &R,
@@ -236,7 +236,7 @@ const ASKED: [(&[&str], &str, u32, u32, EngineKind); 5] = [
     (&["-g", "+7"], "", 4, 7, EngineKind::Dif),
 ];
 
-// Whether this is asked for, of the script in this file, or of a bundle where it has no name.
+// Whether this is asked for, of the script in this file, or of a bundle if it has no name.
 fn is_asked(asked: &Asked, file: &str, plan: &Plan) -> bool {
     let is_file = match &asked.file {
         Some(name) => name.as_str() == file,

@@ -19,7 +19,7 @@ struct Holding {
     gave_up: AtomicU64,
 }
 
-const MOST_LOOKS: u32 = 100_000_000;
+const MAX_LOOKS: u32 = 100_000_000;
 
 impl Holding {
     fn new(held: u32, until: u32) -> Holding {
@@ -42,7 +42,7 @@ impl Gate for Holding {
         if group != self.held {
             return;
         }
-        for _ in 0..MOST_LOOKS {
+        for _ in 0..MAX_LOOKS {
             if self.times_begun(self.until) > 0 {
                 return;
             }

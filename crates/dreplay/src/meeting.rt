@@ -21,7 +21,7 @@ fn typed(alloc: Global, script: &[u8]) -> Result<TypedScript, Refusal> {
     Ok(script)
 }
 
-const MOST_LOOKS: u32 = 100_000_000;
+const MAX_LOOKS: u32 = 100_000_000;
 
 // Where two lanes meet.
 #[derive(Drop)]
@@ -41,7 +41,7 @@ impl Meeting {
     // Comes, and waits until two have, for at most this many looks.
     fn meet(&self) {
         let _ = self.came.fetch_add(1, Ordering::SeqCst);
-        for _ in 0..MOST_LOOKS {
+        for _ in 0..MAX_LOOKS {
             if self.came.load(Ordering::SeqCst) == 2 {
                 return;
             }

@@ -19,7 +19,7 @@ reads_at Header firings bytes = trace_of bytes
 reads_at Rows firings bytes = rows_in firings bytes
 reads_at (Refused e) firings bytes = Err e
 
--- what the trace reads as where these bytes come after those that were taken
+-- what the trace reads as if these bytes come after those that were taken
 abbrev pub reads : Taken → List ℕ → Result (List Firing) TraceFault
 reads t rest = reads_at t.stage t.firings (t.left ++ rest)
 

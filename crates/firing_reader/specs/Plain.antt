@@ -1,6 +1,6 @@
 -- Plain rows, which are read where they lie in a trace: their fields have no quote, comma or end of
 -- a line in them.
--- Source: RFC 4180, with the reading of the crate `csv`.
+-- Source: RFC 4180, section 2, with the reading of the crate `csv`.
 use Rattle.std.specs.Prelude.{◌≡◌, ◌⊎◌, false, ◌<◌, ◌+◌, ◌≤◌, ℕ, List, [], ◌∷◌, ◌++◌, length}
 use Rattle.std.specs.Prelude.{Some, codes, Result, Ok}
 use Rattle.csv.specs.declared.parser.State.{State}
@@ -9,7 +9,7 @@ use Rattle.firings.specs.declared.unit.Owner.{Owner}
 use Rattle.firings.specs.declared.unit.Probe.{Probe}
 use Rattle.firing_reader.specs.Vocabulary.{bytes_eq, next_record, default_config, TraceFault}
 use Rattle.firings.specs.declared.firing.Firing.{Firing}
-use Rattle.firings.specs.declared.trace.TheConstants.{MOST_ROWS}
+use Rattle.firings.specs.declared.limits.TheConstants.{MAX_ROWS}
 use Rattle.firing_reader.specs.{Left.left_in}
 use Rattle.firing_reader.specs.Column.{Whole, value_of}
 use Rattle.firings.specs.Texts.{text_of}
@@ -17,7 +17,7 @@ use Rattle.firings.specs.Firings.{last_number}
 use Rattle.firing_reader.specs.Trace.{next_of, rows_of}
 use Rattle.firing_reader.specs.Row.{◌>>=◌}
 
--- csv takes these fields off the bytes, whatever comes after them, and goes on where a field starts
+-- csv takes these fields off the bytes, whatever comes after them, and goes on if a field starts
 abbrev pub Passes : List ℕ → List (List ℕ) → List ℕ → Type 0
 Passes bytes fields rest = (before : List (List ℕ)) (tail : List ℕ) →
     next_record default_config State.StartField before [] (bytes ++ tail)
@@ -67,7 +67,7 @@ pub record ReadsRow (bytes rest : List ℕ) (f : Firing) : Type 0 where
   pub ends : IsEnd end
   pub read : (tail : List ℕ) → next_record default_config State.StartRecord [] [] (bytes ++ tail)
       ≡ Some (fields, state_after end, after ++ tail)
-  pub firing : (row last : ℕ) → row ≤ MOST_ROWS → last < f.number
+  pub firing : (row last : ℕ) → row ≤ MAX_ROWS → last < f.number
       → next_of row last fields ≡ Ok f
 
 -- after a record the bytes hold the rows of these firings, whatever comes after them

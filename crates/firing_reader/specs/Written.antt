@@ -1,5 +1,5 @@
 -- Which bytes write a trace.
--- Source: RFC 4180, with the reading of the crate `csv`.
+-- Source: RFC 4180, section 2, with the reading of the crate `csv`.
 use Rattle.std.specs.Prelude.{◌≡◌, ◌∷◌, ℕ, List, length, true}
 use Rattle.firing_reader.specs.Vocabulary.{AllZip, default_config, records, strip_bom}
 use Rattle.firings.specs.declared.firing.Firing.{Firing}

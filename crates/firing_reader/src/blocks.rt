@@ -119,7 +119,7 @@ impl Reader {
         })
     }
 
-    /// Takes the next block. Where memory is refused, the reader can only return that.
+    /// Takes the next block. If memory is refused, the reader can only return that.
     ///
     /// ```text
     /// let mut reader = Reader::new(alloc, hash_key, 4, 1 << 22)?;
@@ -185,7 +185,7 @@ impl Reader {
     }
 
     /// Takes the bytes of a block after the line feed that it begins with, and reads nothing yet.
-    /// It leaves another room to the block where it can keep the block's own.
+    /// It leaves another room to the block if it can keep the block's own.
     ///
     /// ```text
     /// reader.take_block(&mut block)?; // as `take` of its bytes from 1 on, but reads later
@@ -239,7 +239,7 @@ impl Reader {
         Ok(Trace::of(firings.finish()))
     }
 
-    /// Reads the rows that are whole, once there are as many bytes as are read at a time. Where
+    /// Reads the rows that are whole, once there are as many bytes as are read at a time. If
     /// memory is refused, the reader can only return that.
     ///
     /// ```text
@@ -281,7 +281,7 @@ impl Reader {
     }
 }
 
-/// Reads a trace as `read_trace` does, by all workers where its rows are plain. Where no thread can
+/// Reads a trace as `read_trace` does, by all workers where its rows are plain. If no thread can
 /// be started, one worker reads what another would have read.
 ///
 /// ```text
@@ -331,7 +331,7 @@ fn rooms_for(
     Ok((waiting, pieces))
 }
 
-// How many bytes there are up to the last one that ends a row, and with it; all of them where there
+// How many bytes there are up to the last one that ends a row, and with it; all of them if there
 // is none.
 fn after_last_end(bytes: &[u8]) -> usize
     ensures within { result ≤ length bytes.now }
@@ -355,7 +355,7 @@ fn is_feed(bytes: &[u8]) -> bool
     }
 }
 
-// Adds the bytes of a block after the line feed that it begins with. Where they come after a line
+// Adds the bytes of a block after the line feed that it begins with. If they come after a line
 // feed, the block is kept.
 fn add_block(left: &mut Vec<u8>, block: &mut Vec<u8>) -> Result<(), AllocError>
     requires { BeginsAtFeed block.old.items }

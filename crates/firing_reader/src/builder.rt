@@ -110,7 +110,7 @@ impl FiringsBuilder {
         }
     }
 
-    /// The number of the last, or 0 where there are none.
+    /// The number of the last, or 0 if there are none.
     pub(crate) fn last_number(&self) -> u64
         ensures { result ≡ last_number_of self.now }
     {
@@ -173,7 +173,7 @@ impl FiringsBuilder {
     }
 
     /// Stores others after these: each owner and each probe of theirs is looked up once, and no
-    /// firing is made. It returns None where memory is refused.
+    /// firing is made. It returns None if memory is refused.
     pub(crate) fn append(&mut self, others: &FiringsBuilder) -> Option<()>
         ensures { IfSome result (λ _. self.new ≡ self.old ++ others.now) }
     {

@@ -9,12 +9,12 @@ ghost use Rattle.firings.specs.{Stored.Extends, Units.owner_in};
 use crate::plain::field::{int, text};
 use crate::plain::unit::end_of_three;
 use crate::unit_table::{PlainEntry, UnitTable, add_bytes};
-use firings::{Firing, OwnerEntry, TEXT_LIMIT};
+use firings::{Firing, MAX_TEXT, OwnerEntry};
 use std::alloc::Global;
 
 // Two numbers of 31 bits that begin with no zero have at most this many bytes, with their commas.
-// Where they have more csv reads the row, as zeros write an owner in any number of ways.
-const LONGEST_NUMBERS: usize = 22;
+// If they have more csv reads the row, as zeros write an owner in any number of ways.
+const MAX_NUMBERS: usize = 22;
 
 impl PlainEntry for OwnerEntry {
     ghost use Rattle.std.specs.Prelude.{[]};
@@ -32,7 +32,7 @@ impl PlainEntry for OwnerEntry {
         let (pid, rest) = int(rest, 0)?;
         let from = key.len().saturating_sub(rest.len());
         let (execname, rest) = text(rest)?;
-        if from > LONGEST_NUMBERS || !rest.is_empty() {
+        if from > MAX_NUMBERS || !rest.is_empty() {
             return None;
         }
         Some(OwnerEntry {
@@ -88,7 +88,7 @@ fn owner_bytes(alloc: Global, firing: &Firing) -> Option<Vec<u8>>
     ensures { IfSome result
         (λ bytes. (numbers : List ℕ) × (bytes.items ≡ firing.now.execname ++ numbers)) }
 {
-    let mut bytes = Vec::with_capacity(alloc, TEXT_LIMIT + 8).ok()?;
+    let mut bytes = Vec::with_capacity(alloc, MAX_TEXT + 8).ok()?;
     add_bytes(&mut bytes, firing.execname.as_bytes())?;
     add_bytes(&mut bytes, &firing.thread.to_le_bytes())?;
     add_bytes(&mut bytes, &firing.pid.to_le_bytes())?;

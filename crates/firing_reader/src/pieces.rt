@@ -11,12 +11,12 @@ ghost use Rattle.firing_reader.specs.Steps.Plain.{GoesAfter, PassesRows};
 use crate::builder::FiringsBuilder;
 use crate::plain::front::{begins_at_end, is_end};
 use crate::plain::read_plain;
-use firings::MOST_ROWS;
+use firings::MAX_ROWS;
 use keyed_hash::HashKey;
 use std::alloc::{AllocError, Global};
 
 // A piece that has more owners and probes than this forgets them before it is used again.
-const MOST_KEPT: usize = 1024;
+const MAX_KEPT: usize = 1024;
 
 /// Rows that a worker reads apart from those before them.
 #[derive(Drop)]
@@ -50,7 +50,7 @@ pub(crate) fn no_pieces(
 fn empty(firings: &mut FiringsBuilder)
     ensures { firings.new ≡ [] }
 {
-    if firings.unit_count() > MOST_KEPT {
+    if firings.unit_count() > MAX_KEPT {
         firings.clear_all();
     } else {
         firings.clear();
@@ -72,7 +72,7 @@ pub(crate) fn read_piece(piece: &mut Piece, bytes: &[u8])
 // Reads a piece after the firings before it. It returns how many bytes come before what is left.
 fn read_alone(firings: &mut FiringsBuilder, bytes: &[u8]) -> usize
     requires feed { BeginsAtEnd bytes.now }
-    requires few { length firings.old ≤ MOST_ROWS }
+    requires few { length firings.old ≤ MAX_ROWS }
     ensures { PassesRows firings.old bytes.now firings.new result }
 {
     let rest = read_plain(firings, bytes);
@@ -132,11 +132,11 @@ fn cut_at_end(bytes: &[u8], from: usize) -> Option<Cut<'_>>
 
 // Whether a trace may have the second after the first.
 fn goes_after(first: &FiringsBuilder, second: &FiringsBuilder) -> bool
-    requires few { length first.now ≤ MOST_ROWS }
+    requires few { length first.now ≤ MAX_ROWS }
     requires rises { Rises 0 second.now (last_number second.now) }
     ensures { result ≡ true → GoesAfter first.now second.now }
 {
-    if second.len() > MOST_ROWS as usize - first.len() {
+    if second.len() > MAX_ROWS as usize - first.len() {
         return false;
     }
     match second.first_number() {
@@ -145,12 +145,12 @@ fn goes_after(first: &FiringsBuilder, second: &FiringsBuilder) -> bool
     }
 }
 
-// Adds the rows of a piece to the firings before it. Where they don't go after these, it reads them
-// as far as they do. It returns how many bytes come before what is left, or None where memory is
+// Adds the rows of a piece to the firings before it. If they don't go after these, it reads them
+// as far as they do. It returns how many bytes come before what is left, or None if memory is
 // refused.
 fn add_piece(firings: &mut FiringsBuilder, piece: &Piece, bytes: &[u8]) -> Option<usize>
     requires feed { BeginsAtEnd bytes.now }
-    requires few { length firings.old ≤ MOST_ROWS }
+    requires few { length firings.old ≤ MAX_ROWS }
     requires piece { IsPiece bytes.now piece.now.firings piece.now.passed }
     ensures { IfSome result (PassesRows firings.old bytes.now firings.new) }
 {
@@ -162,7 +162,7 @@ fn add_piece(firings: &mut FiringsBuilder, piece: &Piece, bytes: &[u8]) -> Optio
 }
 
 /// Adds the rows of pieces to the firings before them. It returns how many bytes come before what
-/// is left, or None where memory is refused.
+/// is left, or None if memory is refused.
 #[cycle(adding)]
 pub(crate) fn add_pieces(
     firings: &mut FiringsBuilder,
@@ -170,7 +170,7 @@ pub(crate) fn add_pieces(
     bytes: &[u8],
 ) -> Option<usize>
     requires pieces { ArePieces pieces.now bytes.now }
-    requires few { length firings.old ≤ MOST_ROWS }
+    requires few { length firings.old ≤ MAX_ROWS }
     ensures { IfSome result (PassesRows firings.old bytes.now firings.new) }
 {
     let Some((piece, others)) = pieces.split_first() else {

@@ -5,7 +5,7 @@ ghost use Rattle.firing_reader.specs.{Plain.BeginsAtEnd};
 ghost use Rattle.firing_reader.specs.Steps.Plain.{GoesOn, Leaves, ReadsMore};
 
 use crate::builder::FiringsBuilder;
-use firings::MOST_ROWS;
+use firings::MAX_ROWS;
 
 mod arguments;
 pub(crate) mod field;
@@ -17,16 +17,16 @@ pub(crate) mod unit;
 /// begins at the end of a row too, so that csv drops no byte order mark from the row after it.
 #[inline(never)]
 pub(crate) fn read_plain<'a>(firings: &mut FiringsBuilder, bytes: &'a [u8]) -> &'a [u8]
-    requires few { length firings.old ≤ MOST_ROWS }
+    requires few { length firings.old ≤ MAX_ROWS }
     requires begins { BeginsAtEnd bytes.now }
     ensures begins { BeginsAtEnd result.now }
     ensures left { Leaves bytes.now result.now }
     ensures read { GoesOn firings.old bytes.now firings.new result.now }
     ensures rows { ReadsMore bytes.now firings.old firings.new result.now }
-    ensures few { length firings.new ≤ MOST_ROWS }
+    ensures few { length firings.new ≤ MAX_ROWS }
 {
     let mut rest = bytes;
-    for _ in firings.len()..MOST_ROWS as usize {
+    for _ in firings.len()..MAX_ROWS as usize {
         let Some(after) = firings.read_row(rest) else {
             return rest;
         };

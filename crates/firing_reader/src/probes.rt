@@ -9,7 +9,7 @@ use crate::plain::field::text;
 use crate::plain::unit::end_of_four;
 use crate::row::RESERVED;
 use crate::unit_table::{PlainEntry, UnitTable, add_bytes};
-use firings::{Firing, ProbeEntry, TEXT_LIMIT, Text};
+use firings::{Firing, MAX_TEXT, ProbeEntry, Text};
 use std::alloc::Global;
 
 impl PlainEntry for ProbeEntry {
@@ -84,7 +84,7 @@ fn probe_bytes(alloc: Global, firing: &Firing) -> Option<Vec<u8>>
     ensures { IfSome result (λ bytes. bytes.items ≡ firing.now.provider ++ 0
         ∷ (firing.now.probemod ++ 0 ∷ (firing.now.probefunc ++ 0 ∷ (firing.now.name ++ 0 ∷ [])))) }
 {
-    let mut bytes = Vec::with_capacity(alloc, 4 * (TEXT_LIMIT + 1)).ok()?;
+    let mut bytes = Vec::with_capacity(alloc, 4 * (MAX_TEXT + 1)).ok()?;
     add_text(&mut bytes, &firing.provider)?;
     add_text(&mut bytes, &firing.probemod)?;
     add_text(&mut bytes, &firing.probefunc)?;

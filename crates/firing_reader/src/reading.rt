@@ -15,7 +15,7 @@ use crate::plain::read_plain;
 use crate::records::Records;
 use crate::row::read_next;
 use csv::ByteRecord;
-use firings::{MOST_ROWS, Trace};
+use firings::{MAX_ROWS, Trace};
 use keyed_hash::HashKey;
 use std::alloc::Global;
 
@@ -25,13 +25,13 @@ fn read_rows(
     fields: &mut ByteRecord,
     firings: &mut FiringsBuilder,
 ) -> Result<(), TraceFault>
-    requires few { length firings.old ≤ MOST_ROWS }
+    requires few { length firings.old ≤ MAX_ROWS }
     ensures read { GivesBy (λ _. firings.new) result (rows_after firings.old records.old) }
-    ensures few { OnOk result (length firings.new ≤ MOST_ROWS) }
+    ensures few { OnOk result (length firings.new ≤ MAX_ROWS) }
 {
     let mut args = [0; 10];
     let first = firings.len() as u32 + 1;
-    for row in first..MOST_ROWS + 1 {
+    for row in first..MAX_ROWS + 1 {
         if !records.read(fields)? {
             return Ok(());
         }
@@ -54,9 +54,9 @@ pub(crate) fn read_by_csv(
     rows: &[u8],
 ) -> Result<(), TraceFault>
     requires begins { BeginsAtEnd rows.now }
-    requires few { length firings.old ≤ MOST_ROWS }
+    requires few { length firings.old ≤ MAX_ROWS }
     ensures read { GivesBy (λ _. firings.new) result (rows_in firings.old rows.now) }
-    ensures few { OnOk result (length firings.new ≤ MOST_ROWS) }
+    ensures few { OnOk result (length firings.new ≤ MAX_ROWS) }
 {
     let mut records = Records::new(alloc, rows);
     let mut fields = ByteRecord::new(alloc);
@@ -71,14 +71,14 @@ pub(crate) fn read_rest(
     bytes: &[u8],
 ) -> Result<(), TraceFault>
     requires begins { BeginsAtEnd bytes.now }
-    requires few { length firings.old ≤ MOST_ROWS }
+    requires few { length firings.old ≤ MAX_ROWS }
     ensures { GivesBy (λ _. firings.new) result (rows_in firings.old bytes.now) }
 {
     let rest = read_plain(firings, bytes);
     read_by_csv(alloc, firings, rest)
 }
 
-// Reads the header of these records, and the rows after it. Returns false where there is no record.
+// Reads the header of these records, and the rows after it. Returns false if there is no record.
 fn read_all(
     records: &mut Records,
     fields: &mut ByteRecord,
@@ -89,7 +89,7 @@ fn read_all(
         ((records.old ≡ []) × (firings.new ≡ []))) }
     ensures faulty { IfErr result (λ e. (e ≡ Memory) ⊎ ((trace_in records.old ≡ Err e)
         × (records.old ≢ []))) }
-    ensures few { OnOk result (length firings.new ≤ MOST_ROWS) }
+    ensures few { OnOk result (length firings.new ≤ MAX_ROWS) }
 {
     if !records.read(fields)? {
         return Ok(false);
@@ -101,7 +101,7 @@ fn read_all(
     Ok(true)
 }
 
-/// Reads the header and rows by csv. It returns false where there is no record.
+/// Reads the header and rows by csv. It returns false if there is no record.
 pub(crate) fn read_records(
     alloc: Global,
     firings: &mut FiringsBuilder,
@@ -112,7 +112,7 @@ pub(crate) fn read_records(
         ((records_of default_config (strip_bom bytes.now) ≡ []) × (firings.new ≡ []))) }
     ensures faulty { IfErr result (λ e. (e ≡ Memory) ⊎ ((trace_of bytes.now ≡ Err e)
         × (records_of default_config (strip_bom bytes.now) ≢ []))) }
-    ensures few { OnOk result (length firings.new ≤ MOST_ROWS) }
+    ensures few { OnOk result (length firings.new ≤ MAX_ROWS) }
 {
     let mut records = Records::new(alloc, bytes);
     let mut fields = ByteRecord::new(alloc);
@@ -138,7 +138,7 @@ pub(crate) fn read_whole(
 }
 
 /// Reads a trace: CSV as the crate `csv` reads it by default, with the header and at most
-/// `MOST_ROWS` rows. The answer is the trace that the bytes write, or its first fault, or
+/// `MAX_ROWS` rows. The answer is the trace that the bytes write, or its first fault, or
 /// `TraceFault::Memory`. Maps hash by a fixed key; `read_trace_by` is given one.
 ///
 /// ```text

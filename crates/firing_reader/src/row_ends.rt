@@ -52,7 +52,7 @@ fn after(place: Place, byte: u8) -> Place
     }
 }
 
-/// How many bytes there are up to the end of the last whole row, 0 where no row ends.
+/// How many bytes there are up to the end of the last whole row, 0 if no row ends.
 pub(crate) fn end_of_rows(bytes: &[u8]) -> usize
     ensures count { result ≤ length bytes.now }
     ensures ends { RowsEnd (take result bytes.now) }

@@ -5,7 +5,7 @@ use std::alloc::{AllocError, Global};
 use std::hash::{BuildHasher, Hasher};
 
 // How many slots there are at first.
-const FEWEST: usize = 2048;
+const MIN_SLOTS: usize = 2048;
 
 // How many slots are looked at for one hash.
 pub(crate) const NEAR: usize = 8;
@@ -61,7 +61,7 @@ fn mixed(hash: u64, word: u64) -> u64 {
 
 impl Slots {
     pub(crate) fn new(alloc: Global, hash_key: HashKey) -> Result<Slots, AllocError> {
-        let slots = vec![in alloc; Slot::EMPTY; FEWEST]?;
+        let slots = vec![in alloc; Slot::EMPTY; MIN_SLOTS]?;
         Ok(Slots {
             alloc,
             secret: hash_key.build_hasher().finish(),
@@ -104,7 +104,7 @@ impl Slots {
         }
     }
 
-    /// Notes a new place, or returns None where memory is refused. Where no slot near its first is
+    /// Notes a new place, or returns None if memory is refused. If no slot near its first is
     /// free, it won't be found.
     pub(crate) fn note(&mut self, tag: u32, place: u32) -> Option<()> {
         if self.used > self.slots.len() / 4 {

@@ -190,7 +190,7 @@ impl<E: PlainEntry> UnitTable<E> {
         Some(place)
     }
 
-    /// The place of the unit that these plain fields write, which is kept where it isn't found.
+    /// The place of the unit that these plain fields write, which is kept if it isn't found.
     #[inline(always)]
     pub(crate) fn read(&mut self, key: &[u8]) -> Option<u32>
         ensures grows { Extends self.old self.new }
@@ -216,7 +216,7 @@ impl<E: PlainEntry> UnitTable<E> {
         self.push(key, true, tag, entry)
     }
 
-    /// The place of a unit that csv read, which is kept where it isn't found. Its bytes have to
+    /// The place of a unit that csv read, which is kept if it isn't found. Its bytes have to
     /// tell it from others.
     pub(crate) fn keep(&mut self, key: &[u8], entry: E) -> Option<u32>
         requires { E.is_in entry key.now }
@@ -275,7 +275,7 @@ impl<E: PlainEntry> UnitTable<E> {
         }
     }
 
-    // The place of a unit of others, which is kept where it isn't found. It is looked for at a
+    // The place of a unit of others, which is kept if it isn't found. It is looked for at a
     // guess first.
     fn place_of_other(&mut self, others: &UnitTable<E>, at: usize, guess: u32) -> Option<u32>
         requires { at < length others.now }

@@ -72,7 +72,7 @@ pub(crate) fn give_back(waiting: &mut Waiting, left: &mut Vec<u8>) -> Result<(),
     Ok(())
 }
 
-/// Keeps the pieces of the bytes that are left as those that wait, where no others do.
+/// Keeps the pieces of the bytes that are left as those that wait, if no others do.
 pub(crate) fn keep_waiting(
     waiting: &mut Waiting,
     pieces: &mut Vec<Piece>,

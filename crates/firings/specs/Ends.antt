@@ -1,11 +1,12 @@
 -- BEGIN and END, which a run fires before and after the rows of its trace.
+-- Source: Dynamic Tracing Guide, "dtrace Provider" (BEGIN, END).
 use Rattle.std.specs.Prelude.{ℕ, ◌+◌, ◌-◌, List, [], ◌∷◌, ◌++◌, length, slice_get, replicate, pos}
 use Rattle.std.specs.Prelude.{codes}
 use Rattle.std.specs.Option.{option_map_or}
 use Rattle.firings.specs.declared.firing.Firing.{Firing}
 use Rattle.firings.specs.Firings.{last_number, time_of}
 
--- the time of the first of these firings, and of the last; 0 where there are none
+-- the time of the first of these firings, and of the last; 0 if there are none
 abbrev pub first_time : List Firing → ℕ
 first_time fs = option_map_or time_of (slice_get fs 0) 0
 

@@ -5,8 +5,8 @@ use Rattle.std.specs.Int.{w64}
 use Rattle.std.specs.List.Sorted.{IsStrictlyIncreasing}
 use Rattle.std.specs.Option.{option_map_or}
 use Rattle.firings.specs.declared.firing.Firing.{Firing}
-use Rattle.firings.specs.declared.text.TheConstants.{TEXT_LIMIT}
-use Rattle.firings.specs.declared.trace.TheConstants.{MOST_ROWS}
+use Rattle.firings.specs.declared.limits.TheConstants.{MAX_TEXT}
+use Rattle.firings.specs.declared.limits.TheConstants.{MAX_ROWS}
 
 -- its place among the firings
 abbrev pub number_of : Firing → ℕ
@@ -30,7 +30,7 @@ IsIntFrom least z = (pos least ≤ℤ z) × (z ≤ℤ pos 0x7FFF_FFFF)
 
 -- a text: UTF-8 of at most 255 bytes, none of them zero
 pub record IsText (bytes : List ℕ) : Type 0 where
-  pub short : length bytes ≤ TEXT_LIMIT
+  pub short : length bytes ≤ MAX_TEXT
   pub no_zero : ¬ (Contains bytes 0)
   pub utf8 : IsUtf8 bytes
 
@@ -59,5 +59,5 @@ pub record IsFiring (f : Firing) : Type 0 where
 -- what a trace keeps
 pub record IsTrace (fs : List Firing) : Type 0 where
   pub rises : IsStrictlyIncreasing (map number_of fs)
-  pub few : length fs ≤ MOST_ROWS
+  pub few : length fs ≤ MAX_ROWS
   pub firings : All IsFiring fs

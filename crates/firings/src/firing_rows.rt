@@ -3,25 +3,23 @@
 ghost use Rattle.std.specs.Prelude.{◌≡◌, ◌<◌, ◌≤◌, Some, length, map, slice_get, take};
 ghost use Rattle.firings.specs.Stored.{IsRowIn, firing_in, row_before};
 ghost use Rattle.firings.specs.Units.{owner_in, probe_in};
-ghost use Rattle.firings.specs.declared.firing_rows.TheConstants.{MOST_TOGETHER};
+ghost use Rattle.firings.specs.declared.limits.TheConstants.{MAX_TOGETHER};
 
 use crate::firing::{Args, Firing};
+use crate::limits::MAX_TOGETHER;
 use crate::stored_row::Row;
 use crate::unit::{Owner, OwnerEntry, Probe, ProbeEntry, owner_at, probe_at};
 use crate::units::Units;
 use std::marker::Model;
 
-/// How many rows are read together, at most.
-pub const MOST_TOGETHER: usize = 16;
-
-/// Rows that were copied from a trace. Contracts see the firing of each; None where there was no
+/// Rows that were copied from a trace. Contracts see the firing of each; None if there was no
 /// row.
 #[derive(Drop)]
 pub struct FiringRows<'a> {
     pub(crate) owners: &'a Units<OwnerEntry>,
     pub(crate) probes: &'a Units<ProbeEntry>,
     pub(crate) args: &'a [i64],
-    pub(crate) rows: [Option<Row>; MOST_TOGETHER],
+    pub(crate) rows: [Option<Row>; MAX_TOGETHER],
     pub(crate) count: usize,
 }
 
@@ -43,7 +41,7 @@ impl<'a> Model for FiringRows<'a> {
 }
 
 impl<'a> FiringRows<'a> {
-    /// The firing of one of them, from 0; None where there was no row.
+    /// The firing of one of them, from 0; None if there was no row.
     ///
     /// ```text
     /// trace.firings().rows(&[0, 1]).get(1); // the first row's firing
@@ -60,11 +58,11 @@ impl<'a> FiringRows<'a> {
 }
 
 /// The rows one before each of these places.
-pub(crate) fn rows_before(rows: &[Row], places: &[u32]) -> [Option<Row>; MOST_TOGETHER]
-    requires { length places.now ≤ MOST_TOGETHER }
+pub(crate) fn rows_before(rows: &[Row], places: &[u32]) -> [Option<Row>; MAX_TOGETHER]
+    requires { length places.now ≤ MAX_TOGETHER }
     ensures { take (length places.now) result ≡ map (row_before rows.now) places.now }
 {
-    let mut found = [None; MOST_TOGETHER];
+    let mut found = [None; MAX_TOGETHER];
     for (at, place) in places.iter().enumerate() {
         found[at] = one_before(rows, *place);
     }
@@ -105,7 +103,7 @@ pub(crate) fn firing_of<'a>(
         probemod,
         probefunc,
         name,
-    } = probe_at(probes, row.probe);
+    } = probe_at(probes, row.probe as usize);
     Firing {
         number: row.number,
         cpu: row.cpu,

@@ -6,7 +6,7 @@ ghost use Rattle.firings.specs.Firings.{last_number as last_number_of, thread_of
 ghost use Rattle.firings.specs.{Probing.probe_of};
 ghost use Rattle.firings.specs.Stored.{ArePlaces, IsRowIn, firing_in, row_before};
 ghost use Rattle.firings.specs.Units.{owner_in, probe_in};
-ghost use Rattle.firings.specs.declared.firing_rows.TheConstants.{MOST_TOGETHER};
+ghost use Rattle.firings.specs.declared.limits.TheConstants.{MAX_TOGETHER};
 
 use crate::firing::Firing;
 use crate::firing_rows::{FiringRows, firing_of, rows_before};
@@ -95,7 +95,7 @@ impl Firings {
     /// rows.get(1); // the firing of row 39, or None where there are fewer rows
     /// ```
     pub fn rows(&self, places: &[u32]) -> FiringRows
-        requires { length places.now ≤ MOST_TOGETHER }
+        requires { length places.now ≤ MAX_TOGETHER }
         ensures { result ≡ map (row_before self.now) places.now }
     {
         FiringRows {
@@ -132,7 +132,7 @@ impl Firings {
         }
     }
 
-    /// The number of the last, or 0 where there are none.
+    /// The number of the last, or 0 if there are none.
     ///
     /// ```text
     /// trace.firings().last_number(); // 9, where the last row begins with 9

@@ -65,7 +65,7 @@ impl<'a> ProbePlaces<'a> {
     }
 
     /// The probe at a place among the probes.
-    pub fn probe(&self, place: u32) -> Probe
+    pub fn probe(&self, place: usize) -> Probe
         requires { place < length self.now.probes }
         ensures { slice_get self.now.probes place ≡ Some result }
     {

@@ -10,7 +10,7 @@ pub struct Given {
 }
 
 impl Given {
-    /// `count` arguments from the place `first` on; none where that is 2^28 or more.
+    /// `count` arguments from the place `first` on; none if that is 2^28 or more.
     pub fn new(first: usize, count: u32) -> Option<Given>
         requires { count ≤ 10 }
         ensures first { IfSome result (λ g. first_of g ≡ first) }

@@ -6,11 +6,9 @@ ghost use Rattle.std.specs.{Cmp.partial_equiv_from_equiv};
 ghost use Rattle.std.specs.Cmp.Lexicographic.{nat_list_eq_equiv, pointwise};
 ghost use Rattle.firings.specs.Texts.{text_of};
 
+use crate::limits::MAX_TEXT;
 use std::fmt;
 use std::marker::Model;
-
-/// The most bytes of a text.
-pub const TEXT_LIMIT: usize = 255;
 
 /// A text of a firing, seen as its bytes: UTF-8, at most 255 and none of them zero. It borrows
 /// them.
@@ -83,7 +81,7 @@ impl<'a> Text<'a> {
 fn is_text(bytes: &[u8]) -> bool
     ensures { result ≡ is_some (text_of bytes.now) }
 {
-    if bytes.len() > TEXT_LIMIT || bytes.contains(&0) {
+    if bytes.len() > MAX_TEXT || bytes.contains(&0) {
         return false;
     }
     std::str::from_utf8(bytes).is_ok()

@@ -12,9 +12,6 @@ use std::alloc::{AllocError, Global};
 use std::collections::BTreeSet;
 use std::marker::Model;
 
-/// The most rows that a trace has.
-pub const MOST_ROWS: u32 = 1_000_000;
-
 /// The firings of a trace. Contracts see it as the list of them.
 #[derive(Drop)]
 pub struct Trace {
@@ -41,7 +38,7 @@ impl Trace {
         Trace { firings }
     }
 
-    /// The firings, in the order of the rows. Their numbers rise, there are at most `MOST_ROWS`,
+    /// The firings, in the order of the rows. Their numbers rise, there are at most `MAX_ROWS`,
     /// and each field is in its range.
     ///
     /// ```text

@@ -77,11 +77,11 @@ pub(crate) fn owner_at(owners: &Units<OwnerEntry>, place: usize) -> Owner
 
 /// The probe at a place.
 #[inline(always)]
-pub(crate) fn probe_at(probes: &Units<ProbeEntry>, place: u32) -> Probe
+pub(crate) fn probe_at(probes: &Units<ProbeEntry>, place: usize) -> Probe
     requires { place < length probes.now }
     ensures { slice_get (map probe_in probes.now) place ≡ Some result }
 {
-    let (bytes, entry) = probes.at(place as usize);
+    let (bytes, entry) = probes.at(place);
     let probemod = entry.provider as usize + 1;
     let probefunc = probemod + entry.probemod as usize + 1;
     let name = probefunc + entry.probefunc as usize + 1;

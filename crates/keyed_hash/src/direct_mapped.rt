@@ -29,7 +29,7 @@ impl<const SLOTS: usize> Model for DirectMapped<SLOTS> {
 }
 
 impl<const SLOTS: usize> DirectMapped<SLOTS> {
-    /// A cache in which each slot has 0. Err where memory was refused.
+    /// A cache in which each slot has 0. Err if memory was refused.
     pub fn new(alloc: Global) -> Result<DirectMapped<SLOTS>, AllocError>
         ensures { IfOk result (λ c. c ≡ replicate SLOTS 0) }
     {

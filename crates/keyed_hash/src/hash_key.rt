@@ -56,7 +56,7 @@ impl HashKey {
         HashKey { initial }
     }
 
-    /// A key of eight bytes of the source. Where the source fails, it may be the same in each run.
+    /// A key of eight bytes of the source. If the source fails, it may be the same in each run.
     ///
     /// ```text
     /// let hash_key = HashKey::random(&rt);

@@ -14,7 +14,7 @@ const HERE_NUMBER: i64 = -100;
 const NULL: &[u8] = b"NULL";
 
 /// The arguments of a call that shows numbers alone, and what comes after the bracket; nothing
-/// where that is missing.
+/// if that is missing.
 pub(crate) fn numbers(shown: &[u8]) -> Option<(Arguments, Option<&[u8]>)> {
     let mut arguments = [None; ARGUMENTS];
     let mut rest = shown;
@@ -53,7 +53,7 @@ pub(crate) struct Named<'a> {
     pub(crate) rest: &'a [u8],
 }
 
-/// The parts of what is shown, where it has the bracket.
+/// The parts of what is shown, if it has the bracket.
 pub(crate) fn by_names<'a>(shown: &'a [u8]) -> Option<Named<'a>> {
     let mut arguments = [None; ARGUMENTS];
     let mut marks = Marks::new();

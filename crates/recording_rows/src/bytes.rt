@@ -2,7 +2,7 @@
 
 use memchr::memchr;
 
-/// The bytes before the first such byte, and those after it, where there is one.
+/// The bytes before the first such byte, and those after it, if there is one.
 #[inline]
 pub(crate) fn cut(bytes: &[u8], mark: u8) -> Option<(&[u8], &[u8])> {
     let at = memchr(mark, bytes)?;

@@ -9,14 +9,14 @@ use crate::row::Arguments;
 use crate::words::Word;
 
 // The digits of the seconds of a duration.
-const MOST_SECONDS: usize = 9;
+const MAX_DURATION: usize = 9;
 
 /// What a call returned, and how long it took.
 #[derive(Clone, Copy)]
 pub(crate) struct Outcome {
-    /// What it returned, and the error's number or the same; None where it doesn't return.
+    /// What it returned, and the error's number or the same; None if it doesn't return.
     pub(crate) returned: Option<(i64, i64)>,
-    /// Nanoseconds, where strace tells.
+    /// Nanoseconds, if strace tells.
     pub(crate) took: Option<u64>,
 }
 
@@ -118,7 +118,7 @@ fn without_duration(shown: &[u8]) -> Option<(&[u8], Option<u64>)> {
     let Some((before, duration)) = cut(shown, b'<') else {
         return Some((shown, None));
     };
-    let (took, rest) = nanoseconds(duration, MOST_SECONDS)?;
+    let (took, rest) = nanoseconds(duration, MAX_DURATION)?;
     if rest != b">".as_slice() {
         return None;
     }

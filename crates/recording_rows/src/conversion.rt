@@ -21,10 +21,10 @@ use std::io;
 use std::io::{ErrorKind, Read, Write};
 
 /// The most bytes of a recording that are held. A larger one stops after them.
-pub const MOST_BYTES: u64 = 1 << 27;
+pub const MAX_BYTES: u64 = 1 << 27;
 
 // The most lines between the lines of a call that begins a thread or a process.
-const MOST_BETWEEN: usize = 40_000;
+const MAX_BETWEEN: usize = 40_000;
 
 /// Reads a recording to its end, and writes the rows of its lines up to the first that isn't known.
 /// What is written is a trace, whatever was read. A recording is held whole, and a block of the
@@ -47,7 +47,7 @@ pub fn convert<R: Read + Drop, W: Write>(
 // Reads a recording, up to the most bytes that are held.
 fn read<R: Read + Drop>(alloc: Global, input: R) -> Result<Vec<u8>, ConvertFault> {
     let mut recording = Vec::new(alloc);
-    let mut limited = input.take(MOST_BYTES);
+    let mut limited = input.take(MAX_BYTES);
     match limited.read_to_end(&mut recording) {
         Ok(_) => Ok(recording),
         Err(fault) => Err(read_fault(&fault)),
@@ -96,7 +96,7 @@ fn convert_lines<'a, W: Write>(
         }
         rows.send_block(output)?;
     }
-    let is_whole = begin >= recording.len() && (recording.len() as u64) < MOST_BYTES;
+    let is_whole = begin >= recording.len() && (recording.len() as u64) < MAX_BYTES;
     let line = line.saturating_add(1);
     let end = if is_whole {
         End::Whole
@@ -187,7 +187,7 @@ impl<'a> Conversion<'a> {
         let Some(Some(rest)) = self.rests.pop() else {
             return self.begin_alone(line, name, shown);
         };
-        if rest.name != name.bytes || (is_named(name.bytes) && rest.lines > MOST_BETWEEN) {
+        if rest.name != name.bytes || (is_named(name.bytes) && rest.lines > MAX_BETWEEN) {
             return Err(Halt::Unknown);
         }
         let mut whole = Vec::from_slice(self.alloc, shown)?;

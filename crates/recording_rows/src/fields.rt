@@ -50,7 +50,7 @@ fn put_text(out: &mut Vec<u8>, text: &[u8]) -> Result<(), AllocError>
     out.extend_from_slice(text)
 }
 
-// Puts an argument's field, which is empty where there is none.
+// Puts an argument's field, which is empty if there is none.
 #[inline(always)]
 fn put_argument(out: &mut Vec<u8>, argument: Option<i64>) -> Result<(), AllocError>
     ensures bytes { OnOk result

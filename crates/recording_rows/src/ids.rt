@@ -3,7 +3,7 @@
 ghost use Rattle.std.specs.Prelude.{◌≡◌, ◌≤◌, IfSome};
 
 // The greatest of them.
-const MOST: u64 = 0x7FFF_FFFF;
+const MAX_ID: u64 = 0x7FFF_FFFF;
 
 /// The number of a thread or a process: a positive one of 31 bits.
 #[derive(Clone, Copy)]
@@ -19,7 +19,7 @@ impl Id {
     pub(crate) fn of(number: u64) -> Option<Id>
         ensures { IfSome result (λ id. id.number ≡ number) }
     {
-        if number < 1 || number > MOST {
+        if number < 1 || number > MAX_ID {
             return None;
         }
         Some(Id { number })

@@ -26,5 +26,5 @@ mod row;
 mod rows;
 mod words;
 
-pub use conversion::{MOST_BYTES, convert};
+pub use conversion::{MAX_BYTES, convert};
 pub use fault::{ConvertFault, End};

@@ -6,12 +6,12 @@ use crate::numbers::{decimal, nanoseconds};
 use crate::words::Word;
 
 // The digits of a thread's number, and of the seconds of a time.
-const MOST_THREAD: usize = 9;
+const MAX_THREAD: usize = 9;
 
-const MOST_SECONDS: usize = 11;
+const MAX_SECONDS: usize = 11;
 
 // The letters of a system call's name.
-const MOST_NAME: usize = 81;
+const MAX_NAME: usize = 81;
 
 /// What a line is of.
 #[derive(Clone, Copy)]
@@ -42,9 +42,9 @@ impl<'a> Line<'a> {
         if line.first() == Some(&b'0') {
             return None;
         }
-        let (thread, rest) = decimal(line, MOST_THREAD)?;
+        let (thread, rest) = decimal(line, MAX_THREAD)?;
         let rest = after_spaces(rest.strip_prefix(b" ")?);
-        let (time, rest) = nanoseconds(rest, MOST_SECONDS)?;
+        let (time, rest) = nanoseconds(rest, MAX_SECONDS)?;
         let event = rest.strip_prefix(b" ")?;
         Some(Line {
             thread: Id::of(thread)?,
@@ -100,7 +100,7 @@ fn signal<'a>(shown: &'a [u8]) -> Option<Event<'a>> {
 
 // The name of a system call.
 fn call_name<'a>(name: &'a [u8]) -> Option<Word<'a>> {
-    if name.len() > MOST_NAME || !matches!(name.first()?, b'a'..=b'z' | b'_') {
+    if name.len() > MAX_NAME || !matches!(name.first()?, b'a'..=b'z' | b'_') {
         return None;
     }
     if !name

@@ -30,7 +30,7 @@ impl Marks {
         }
     }
 
-    /// Whether the next byte ends an argument. None where it isn't known here.
+    /// Whether the next byte ends an argument. None if it isn't known here.
     pub(crate) fn ends(&mut self, byte: u8) -> Option<bool> {
         let was = self.place;
         self.place = match (was, byte) {
@@ -50,7 +50,7 @@ impl Marks {
         Some(false)
     }
 
-    // Whether the next byte, outside of texts and comments, ends an argument. None where it isn't
+    // Whether the next byte, outside of texts and comments, ends an argument. None if it isn't
     // known here.
     fn bracket(&mut self, byte: u8) -> Option<bool> {
         match byte {

@@ -22,9 +22,9 @@ const SCALES: [u64; 10] = [
 
 // The most digits of a number that fits in 64 bits whatever they are: decimal ones, and hexadecimal
 // ones.
-const MOST_DECIMAL: usize = 19;
+const MAX_DECIMAL: usize = 19;
 
-const MOST_HEXADECIMAL: usize = 16;
+const MAX_HEXADECIMAL: usize = 16;
 
 /// The number of at least one decimal digit and at most so many.
 #[inline(always)]
@@ -58,7 +58,7 @@ fn hexadecimal(shown: &[u8]) -> Option<(u64, &[u8])> {
         number = number << 4 | digit;
         count = count.saturating_add(1);
     }
-    if count == 0 || count > MOST_HEXADECIMAL {
+    if count == 0 || count > MAX_HEXADECIMAL {
         return None;
     }
     Some((number, shown.get(count..)?))
@@ -70,7 +70,7 @@ fn size(shown: &[u8]) -> Option<(u64, &[u8])> {
     match shown {
         [b'0', b'x', digits @ ..] => hexadecimal(digits),
         [b'0', b'0'..=b'9', ..] => None,
-        _ => decimal(shown, MOST_DECIMAL),
+        _ => decimal(shown, MAX_DECIMAL),
     }
 }
 

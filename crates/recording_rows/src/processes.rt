@@ -69,7 +69,7 @@ impl<'a> Processes<'a> {
         Ok(thread)
     }
 
-    // The process of a thread, which is its own where no call began it.
+    // The process of a thread, which is its own if no call began it.
     fn process(&self, thread: Id) -> Id {
         match self.processes.get(&thread.number) {
             Some(process) => *process,

@@ -6,7 +6,7 @@ ghost use Rattle.std.specs.Io.KnownBytes.{Appends};
 use crate::fault::{ConvertFault, End};
 use crate::fields::put_row;
 use crate::row::{Made, Row};
-use firings::MOST_ROWS;
+use firings::MAX_ROWS;
 use std::alloc::{AllocError, Global};
 use std::io::Write;
 
@@ -56,7 +56,7 @@ impl Rows {
         let Some(row) = row else {
             return Ok(true);
         };
-        if self.count >= u64::from(MOST_ROWS) {
+        if self.count >= u64::from(MAX_ROWS) {
             return Ok(false);
         }
         self.count += 1;

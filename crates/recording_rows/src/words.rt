@@ -4,7 +4,7 @@ ghost use Rattle.std.specs.Prelude.{◌≡◌, ◌↔◌, EachIndex, IfSome, IsT
 ghost use Rattle.recording_rows.specs.Words.{is_plain_byte as is_plain, is_word};
 
 /// The most bytes of a text of a trace.
-const MOST: usize = 255;
+const MAX_TEXT: usize = 255;
 
 /// A text of a trace without quotes, commas and what can't be seen.
 #[derive(Clone, Copy)]
@@ -33,7 +33,7 @@ impl<'a> Word<'a> {
     pub(crate) fn of(bytes: &'a [u8]) -> Option<Word<'a>>
         ensures { IfSome result (λ w. w.bytes.now ≡ bytes.now) }
     {
-        if bytes.len() > MOST || !are_plain(bytes) {
+        if bytes.len() > MAX_TEXT || !are_plain(bytes) {
             return None;
         }
         Some(Word { bytes })

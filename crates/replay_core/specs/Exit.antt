@@ -23,7 +23,7 @@ history_over m trace = history m (firings_over m trace) blank_threads
 abbrev pub exit_status : List (Firing × Made) → ℕ
 exit_status h = unwrap_or (option_map (λ exit. exit.1) (exit_of h)) 0
 
--- the number of the first firing of a trace that exits, 2^64 - 1 where none does
+-- the number of the first firing of a trace that exits, 2^64 - 1 if none does
 abbrev pub first_exit_number : ScriptMeant → List Firing → ℕ
 first_exit_number m trace =
     unwrap_or (option_map (λ exit. exit.0)

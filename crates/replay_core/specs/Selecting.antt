@@ -1,10 +1,11 @@
 -- Which clauses are selected for each firing of a run.
+-- Source: Dynamic Tracing Guide, "Probe Descriptions".
 use Rattle.std.specs.Borrow.{Bor}
 use Rattle.std.specs.Prelude.{◌≡◌, ◌≤◌, ◌⊎◌, ℕ, List, [], ◌∷◌, ◌++◌, All, Option, get_or}
 use Rattle.std.specs.Prelude.{length, map, option_map}
 use Rattle.replay_core.specs.Patterns.{probe_of}
 use Rattle.replay_core.specs.Places.{places_for}
-use Rattle.replay_core.specs.Vocabulary.{Firing, MOST_BYTES, ScriptMeant, with_ends}
+use Rattle.replay_core.specs.Vocabulary.{Firing, MAX_BYTES, ScriptMeant, with_ends}
 
 -- the clauses that run for a firing, by their places in the script
 abbrev pub selected_for : ScriptMeant → Firing → List ℕ
@@ -19,7 +20,7 @@ AreFor trace selected m =
 -- the places of the clauses that the script selects for each firing of a run over the trace
 pub record AreSelected (runs : ScriptMeant → Type 0) (trace : List Firing)
     (selected : List (List ℕ)) : Type 0 where
-  pub few : All (λ places. length places ≤ MOST_BYTES) selected
+  pub few : All (λ places. length places ≤ MAX_BYTES) selected
   pub each : (m : ScriptMeant) → runs m → AreFor trace selected m
 
 -- the places that are lent, if any are
@@ -28,7 +29,7 @@ lent places = option_map (λ l. l.now) places
 
 -- ---- lists that are kept once
 
--- the list at a place; an empty one where there is none
+-- the list at a place; an empty one if there is none
 abbrev pub list_at : List (List ℕ) → ℕ → List ℕ
 list_at lists place = get_or lists place []
 

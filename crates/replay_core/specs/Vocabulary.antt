@@ -21,11 +21,11 @@ pub use Rattle.firings.specs.Stored.{ArePlaces, Extends, row_before}
 pub use Rattle.firings.specs.Firings.{IsTrace}
 pub use Rattle.firings.specs.declared.firing.Firing.{Firing}
 pub use Rattle.aggregations.specs.Lent.{key_of, part_of_lent}
-pub use Rattle.firings.specs.declared.firing_rows.TheConstants.{MOST_TOGETHER}
+pub use Rattle.firings.specs.declared.limits.TheConstants.{MAX_TOGETHER}
 pub use Rattle.aggregations.specs.Table.{Aggregation, Contribution, StandsFor, count_held}
 pub use Rattle.aggregations.specs.Table.{functions_of}
 pub use Rattle.aggregations.specs.declared.function.AggFn.{AggFn}
-pub use Rattle.d_lexer.specs.declared.fault.TheConstants.{MOST_BYTES}
+pub use Rattle.d_lexer.specs.declared.fault.TheConstants.{MAX_BYTES}
 pub use Rattle.d_parser.specs.declared.tree.Description.{Description}
 pub use Rattle.d_types.specs.Clauses.{Evaluation, Made, and_then, contributions_in, effect_by}
 pub use Rattle.d_types.specs.Clauses.{exit_in, fault_line, argument_by, nothing_made, run_of}

@@ -30,7 +30,7 @@ pub fn history_of_parts()
         ≡ history m fs threads ++ history m gs (threads_over m fs threads) }
 {}
 
-/// Where numbers rise, the first firing that exits is the one with the least number.
+/// If numbers rise, the first firing that exits is the one with the least number.
 pub fn first_exit_is_least()
     ensures { (m : ScriptMeant) (fs : List Firing) (threads : Threads) (exit : ℕ × ℕ)
         → IsStrictlyIncreasing (map number_of fs)
@@ -56,7 +56,7 @@ pub fn sorted_in_one_way()
     ensures { (items xs ys : List (ℕ × List ℕ)) → IsSorted items xs → IsSorted items ys → xs ≡ ys }
 {}
 
-/// Without an exit a run is over the whole trace: BEGIN, all rows, and END. In a script where no
+/// Without an exit a run is over the whole trace: BEGIN, all rows, and END. In a script if no
 /// statement exits the status is 0 besides.
 pub fn without_exit()
     ensures script { (m : ScriptMeant) (trace : List Firing) → has_exit m ≡ false
@@ -68,7 +68,7 @@ pub fn without_exit()
 {}
 
 /// At the close of a round in which workers watch for exits, the least number is that of the run's
-/// first firing that exits, and 2^64 - 1 where none does, whatever each worker was shown.
+/// first firing that exits, and 2^64 - 1 if none does, whatever each worker was shown.
 pub fn least_is_the_first_exit()
     ensures { (m : ScriptMeant) (groups : Groups) (trace : List Firing) (round : Round)
         → IsTrace trace → AreOf groups (run_threads trace)

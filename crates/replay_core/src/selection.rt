@@ -9,7 +9,7 @@ pub(crate) mod table;
 ghost use Rattle.std.specs.Prelude.{◌≡◌, ◌≤◌, IfOk, List, OnOk, Some, [], get_or};
 ghost use Rattle.std.specs.Prelude.{length, map, slice_get, sum_by, take};
 ghost use Rattle.replay_core.specs.Vocabulary.{AllZip, ArePlaces, ClauseMeant, Description};
-ghost use Rattle.replay_core.specs.Vocabulary.{Extends, MOST_BYTES, MOST_TOGETHER, ScriptMeant};
+ghost use Rattle.replay_core.specs.Vocabulary.{Extends, MAX_BYTES, MAX_TOGETHER, ScriptMeant};
 ghost use Rattle.replay_core.specs.Vocabulary.{Slots, slots_of, with_ends};
 ghost use Rattle.replay_core.specs.{Places.places_for};
 ghost use Rattle.replay_core.specs.Steps.Described.{IsTableOf};
@@ -21,14 +21,14 @@ use crate::selection::clause_lists::ClauseLists;
 use crate::selection::clause_places::ClausePlaces;
 use crate::selection::table::DescriptionTable;
 use d_parser::Description;
-use firings::{Firing, MOST_TOGETHER, Probe, ProbePlaces, Text, Trace};
+use firings::{Firing, MAX_TOGETHER, Probe, ProbePlaces, Text, Trace};
 use keyed_hash::HashKey;
 use std::alloc::{AllocError, Global};
 use std::marker::Model;
 
 /// Which clauses run for each firing of a run over a trace, if that was found before any fires.
 /// Contracts see the places of the clauses, firing by firing: of BEGIN, of each row, and of END.
-/// They see none where nothing was found.
+/// They see none if nothing was found.
 #[derive(Drop)]
 pub struct Selections<'a> {
     found: Option<Found<'a>>,
@@ -69,12 +69,12 @@ impl<'a> Selections<'a> {
     }
 
     /// The places of the clauses that run for the firings at these places, in their order.
-    pub(crate) fn lists(&self, places: &[u32]) -> [Option<&ClausePlaces>; MOST_TOGETHER]
-        requires { length places.now ≤ MOST_TOGETHER }
+    pub(crate) fn lists(&self, places: &[u32]) -> [Option<&ClausePlaces>; MAX_TOGETHER]
+        requires { length places.now ≤ MAX_TOGETHER }
         ensures { map lent (take (length places.now) result)
             ≡ map (slice_get self.now) places.now }
     {
-        let mut lists = [None; MOST_TOGETHER];
+        let mut lists = [None; MAX_TOGETHER];
         for (at, place) in places.iter().enumerate() {
             lists[at] = self.at(*place);
         }
@@ -167,7 +167,7 @@ pub(crate) fn select<'a, C: Clause>(
     clauses: &[C],
     trace: &'a Trace,
 ) -> Result<Selections<'a>, AllocError>
-    requires { sum_by C.probes clauses.now ≤ MOST_BYTES }
+    requires { sum_by C.probes clauses.now ≤ MAX_BYTES }
     ensures { IfOk result (AreSelected
         (λ m. AllZip (λ c. C.means c (slots_of m)) clauses.now m.clauses) trace.now) }
 {
@@ -249,10 +249,7 @@ fn lists_for(
 {
     let mut places = Vec::new(alloc);
     for probe in 0..firings.probe_count() {
-        let Ok(place) = u32::try_from(probe) else {
-            return Err(AllocError);
-        };
-        places.push(list_for(alloc, lists, table, &firings.probe(place))?)?;
+        places.push(list_for(alloc, lists, table, &firings.probe(probe))?)?;
     }
     Ok(places)
 }

@@ -26,7 +26,7 @@ use crate::workers::round::{Round, in_round};
 use crate::workers::span::Span;
 use crate::workers::worker::WorkerInput;
 use firings::Trace;
-use shard_queue::{Groups, MOST_GROUPS, MOST_WORKERS};
+use shard_queue::{Groups, MAX_GROUPS, MAX_WORKERS};
 use std::alloc::{AllocError, Global};
 use std::sync::Wait;
 use std::thread::Threads;
@@ -40,8 +40,8 @@ struct Job<'a, G> {
 }
 
 /// Runs a script over a trace by this many workers, 1 to 16, each group by one of them, and makes
-/// one whole of what they made; the lists are the groups that each worker took. Where a firing
-/// exits, the run ends with the first that does, and END. Err where memory or a thread was refused.
+/// one whole of what they made; the lists are the groups that each worker took. If a firing
+/// exits, the run ends with the first that does, and END. Err if memory or a thread was refused.
 ///
 /// ```text
 /// let lanes = DifLanes::new(&program);
@@ -61,8 +61,8 @@ pub fn run_all<R: Threads + Wait + Sync, L: Lanes + Sync, G: Gate + Sync>(
 ) -> Result<(Whole, Vec<Vec<u32>>), AllocError>
     requires script { (m : ScriptMeant) × L.runs lanes.now m }
     requires groups { AreOf groups.now (run_threads trace.now) }
-    requires few { (grouping groups.now).count ≤ MOST_GROUPS + 1 }
-    requires workers { (0 < workers) × (workers ≤ MOST_WORKERS) }
+    requires few { (grouping groups.now).count ≤ MAX_GROUPS + 1 }
+    requires workers { (0 < workers) × (workers ≤ MAX_WORKERS) }
     ensures whole { IfOk result (λ r. (m : ScriptMeant) → L.runs lanes.now m
         → IsWholeOf m (firings_over m trace.now) (grouping groups.now) (whole_seen r.0)) }
     ensures once { IfOk result (λ r. (m : ScriptMeant) → L.runs lanes.now m
@@ -95,8 +95,8 @@ fn in_rounds<R: Threads + Wait + Sync, L: Lanes + Sync, G: Gate + Sync>(
     workers: u32,
 ) -> Result<Round, AllocError>
     requires ready { IsReady (L.runs lanes.now) job.now.groups.now job.now.trace.now }
-    requires few { (grouping job.now.groups.now).count ≤ MOST_GROUPS + 1 }
-    requires workers { (0 < workers) × (workers ≤ MOST_WORKERS) }
+    requires few { (grouping job.now.groups.now).count ≤ MAX_GROUPS + 1 }
+    requires workers { (0 < workers) × (workers ≤ MAX_WORKERS) }
     ensures workers { IfOk result (λ r. vec_len r.lists ≡ workers) }
     ensures trace { IfOk result (λ _. IsTrace job.now.trace.now) }
     ensures run { IfOk result (IsRun (L.runs lanes.now) job.now.groups.now job.now.trace.now) }
@@ -113,7 +113,7 @@ fn in_rounds<R: Threads + Wait + Sync, L: Lanes + Sync, G: Gate + Sync>(
     in_needed_rounds(rt, &input, workers)
 }
 
-// One round where the script has no exit, else two.
+// One round if the script has no exit, else two.
 fn in_needed_rounds<R: Threads + Wait + Sync, L: Lanes + Sync, G: Gate + Sync>(
     rt: &R,
     input: &WorkerInput<L, G>,
@@ -122,8 +122,8 @@ fn in_needed_rounds<R: Threads + Wait + Sync, L: Lanes + Sync, G: Gate + Sync>(
     requires ready { IsReady (L.runs input.now.lanes.now) input.now.groups.now input.now.trace.now }
     requires selected { AreSelected
         (L.runs input.now.lanes.now) input.now.trace.now input.now.selections.now }
-    requires few { (grouping input.now.groups.now).count ≤ MOST_GROUPS + 1 }
-    requires workers { (0 < workers) × (workers ≤ MOST_WORKERS) }
+    requires few { (grouping input.now.groups.now).count ≤ MAX_GROUPS + 1 }
+    requires workers { (0 < workers) × (workers ≤ MAX_WORKERS) }
     ensures workers { IfOk result (λ r. vec_len r.lists ≡ workers) }
     ensures trace { IfOk result (λ _. IsTrace input.now.trace.now) }
     ensures run { IfOk result (IsRun
@@ -137,7 +137,7 @@ fn in_needed_rounds<R: Threads + Wait + Sync, L: Lanes + Sync, G: Gate + Sync>(
     }
 }
 
-// A round in which workers watch for exits. Where a firing exits, a second one over the firings up
+// A round in which workers watch for exits. If a firing exits, a second one over the firings up
 // to the first that does, and END.
 fn until_exit<R: Threads + Wait + Sync, L: Lanes + Sync, G: Gate + Sync>(
     rt: &R,
@@ -148,8 +148,8 @@ fn until_exit<R: Threads + Wait + Sync, L: Lanes + Sync, G: Gate + Sync>(
     requires ready { IsReady (L.runs input.now.lanes.now) input.now.groups.now input.now.trace.now }
     requires selected { AreSelected
         (L.runs input.now.lanes.now) input.now.trace.now input.now.selections.now }
-    requires few { (grouping input.now.groups.now).count ≤ MOST_GROUPS + 1 }
-    requires workers { (0 < workers) × (workers ≤ MOST_WORKERS) }
+    requires few { (grouping input.now.groups.now).count ≤ MAX_GROUPS + 1 }
+    requires workers { (0 < workers) × (workers ≤ MAX_WORKERS) }
     requires trace { IsTrace input.now.trace.now }
     requires end { end ≡ (end_of input.now.trace.now).number }
     ensures workers { IfOk result (λ r. vec_len r.lists ≡ workers) }

@@ -1,4 +1,5 @@
 -- The bytes of an entry.
+-- Source: Dynamic Tracing Guide, "Aggregations".
 use Rattle.std.specs.Prelude.{ℕ, List, [], ◌∷◌, ◌++◌, ℤ}
 use Rattle.report.specs.Vocabulary.{KeyPart, Number, Name, Held, Figure, Single, Distribution}
 use Rattle.report.specs.Vocabulary.{figure_of, signed_decimal, flat_map}

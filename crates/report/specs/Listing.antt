@@ -1,4 +1,5 @@
 -- The entries of an aggregation in the order in which they are shown.
+-- Source: Dynamic Tracing Guide, "Aggregations".
 use Rattle.std.specs.Prelude.{◌≡◌, ◌⊎◌, ◌<ℤ◌, ℕ, List, [], ◌∷◌, ℤ}
 use Rattle.report.specs.Vocabulary.{AggFn, Contribution, AreEntries, figure_of, rank_of}
 use Rattle.report.specs.Vocabulary.{IsStrictlySortedBy, Less, Ordering, int_cmp, ordering_then}

@@ -6,13 +6,13 @@ ghost use Rattle.report.specs.Columns.{spaces};
 use std::alloc::AllocError;
 
 /// The most spaces that are put at once.
-pub const MOST_SPACES: usize = 50;
+pub const MAX_SPACES: usize = 50;
 
-const BLANKS: [u8; MOST_SPACES] = [b' '; MOST_SPACES];
+const BLANKS: [u8; MAX_SPACES] = [b' '; MAX_SPACES];
 
 /// Puts this many spaces.
 pub fn put_spaces(out: &mut Vec<u8>, count: usize) -> Result<(), AllocError>
-    requires { count ≤ MOST_SPACES }
+    requires { count ≤ MAX_SPACES }
     ensures { OnOk result (out.new.items ≡ out.old.items ++ spaces count) }
 {
     out.extend_from_slice(&BLANKS[..count])

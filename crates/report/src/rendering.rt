@@ -25,7 +25,7 @@ use std::thread::Threads;
 const BLOCK: usize = 512;
 
 // With fewer entries threads cost more than they save.
-const LEAST_FOR_THREADS: usize = 4 * BLOCK;
+const MIN_FOR_THREADS: usize = 4 * BLOCK;
 
 // How many entries are shared at once: only their bytes are in memory twice.
 const ROUND: usize = 64 * BLOCK;
@@ -33,7 +33,7 @@ const ROUND: usize = 64 * BLOCK;
 /// The bytes that show what a run of the script made: its texts, and after them each aggregation
 /// that has entries, in the order of the script, its entries ascending by value and then by key
 /// (Dynamic Tracing Guide, "Aggregations"). The caller owes that the aggregations are the script's.
-/// Threads share the work where there are many entries.
+/// Threads share the work if there are many entries.
 ///
 /// ```text
 /// let bytes = render(&rt, alloc, &script, &whole)?;
@@ -103,7 +103,7 @@ fn put_aggregation<R: Threads + Sync>(
     put_entries(rt, alloc, out, &entries)
 }
 
-// Puts a line feed and the entries, where there are any.
+// Puts a line feed and the entries, if there are any.
 fn put_entries<R: Threads + Sync>(
     rt: &R,
     alloc: Global,
@@ -120,7 +120,7 @@ fn put_entries<R: Threads + Sync>(
     put_lines(rt, alloc, out, entries)
 }
 
-// Puts entries. Threads share the work where there are many.
+// Puts entries. Threads share the work if there are many.
 fn put_lines<R: Threads + Sync>(
     rt: &R,
     alloc: Global,
@@ -130,7 +130,7 @@ fn put_lines<R: Threads + Sync>(
     ensures { OnOk result (out.new.items
         ≡ out.old.items ++ flat_map (λ e. entry_bytes (deref_pair e)) entries.now) }
 {
-    if entries.len() < LEAST_FOR_THREADS {
+    if entries.len() < MIN_FOR_THREADS {
         return put_each(out, entries);
     }
     for round in entries.chunks(ROUND) {

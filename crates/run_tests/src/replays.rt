@@ -152,7 +152,7 @@ fn serial() -> Plan
     }
 }
 
-// Consumes the bundle one byte a call, where these many calls of the reader and of the writer go
+// Consumes the bundle one byte a call, if these many calls of the reader and of the writer go
 // well. The writer's last call is a flush.
 fn consume_by_bytes<R: AllocGlobal + Threads + Wait + Sync>(
     rt: &R,
@@ -357,7 +357,7 @@ const LISTS: [(&[&[i32]], Option<GroupFault>); 6] = [
     (&[], Some(GroupFault::Missing { thread: 7 })),
 ];
 
-// Whether an answer is the whole one, or where there is a fault of the groups, this fault.
+// Whether an answer is the whole one, or if there is a fault of the groups, this fault.
 fn is_of_lists(answer: &Result<Replayed, Refusal>, fault: Option<GroupFault>) -> bool {
     match answer {
         Ok(replayed) => fault.is_none() && replayed.bytes.as_slice() == SHOWN,

@@ -16,7 +16,7 @@ fn typed(alloc: Global, script: &str) -> Option<TypedScript> {
     check(alloc, tree).ok()
 }
 
-// What the program of a script shows, nothing where the script is refused.
+// What the program of a script shows, nothing if the script is refused.
 fn listing(alloc: Global, script: &str) -> Result<String, AllocError> {
     let Some(script) = typed(alloc, script) else {
         return Ok(String::new(alloc));

@@ -1,6 +1,6 @@
 //! Which tokens scripts have, and which fault.
 
-use d_lexer::{LexFault, MOST_BYTES, Token, TokenKind, lex};
+use d_lexer::{LexFault, MAX_BYTES, Token, TokenKind, lex};
 use std::alloc::{AllocError, Global};
 use std::test::Fail;
 
@@ -236,7 +236,7 @@ fn faults(rt: HostRuntime) -> Result<(), Fail> {
 // Whether as many blanks as a script may have, with these bytes after them, have these tokens, or
 // this fault.
 fn is_blanks_text(alloc: Global, rest: &[u8], wanted: &str) -> Result<bool, AllocError> {
-    let mut script = vec![in alloc; b' '; MOST_BYTES]?;
+    let mut script = vec![in alloc; b' '; MAX_BYTES]?;
     script.extend_from_slice(rest)?;
     is_lexed(alloc, &script, wanted)
 }

@@ -29,7 +29,7 @@ const MINUS_8: u64 = u64::MAX - 7;
 
 const LEAST: u64 = 1 << 63;
 
-// What a run returns: an integer, a text's bytes, or a fault; none where the object isn't valid.
+// What a run returns: an integer, a text's bytes, or a fault; none if the object isn't valid.
 #[derive(Drop, Debug, PartialEq, Eq)]
 enum Shown {
     Invalid,

@@ -3,14 +3,14 @@
 ghost use Rattle.std.specs.Prelude.{◌≤◌, length};
 ghost use Rattle.d_lexer.specs.{Small.HaveSmallNumbers};
 
-use d_lexer::{MOST_BYTES, Token, lex};
+use d_lexer::{MAX_BYTES, Token, lex};
 use d_parser::parse;
 use std::alloc::{AllocError, Global};
 use std::test::Fail;
 
 // The tree of these tokens as text, or its fault.
 fn tree_text_of(alloc: Global, tokens: &[Token]) -> Result<String, AllocError>
-    requires few { length tokens.now ≤ MOST_BYTES }
+    requires few { length tokens.now ≤ MAX_BYTES }
     requires small { HaveSmallNumbers tokens.now }
 {
     match parse(alloc, tokens) {

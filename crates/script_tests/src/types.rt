@@ -4,7 +4,7 @@ ghost use Rattle.std.specs.Prelude.{◌≤◌, length};
 ghost use Rattle.d_lexer.specs.{Small.HaveSmallNumbers};
 ghost use Rattle.d_parser.specs.{Numbers.AreSmall, Sizes.IsWithin, Tree.script_of};
 
-use d_lexer::{MOST_BYTES, Token, lex};
+use d_lexer::{MAX_BYTES, Token, lex};
 use d_parser::{Script, parse};
 use d_types::check;
 use std::alloc::{AllocError, Global};
@@ -13,7 +13,7 @@ use std::test::Fail;
 
 // "typed" for a tree that is well typed, else what its fault says.
 fn answer_to_tree(alloc: Global, tree: Script) -> Result<String, AllocError>
-    requires few { IsWithin MOST_BYTES (script_of tree) }
+    requires few { IsWithin MAX_BYTES (script_of tree) }
     requires small { AreSmall (script_of tree) }
 {
     match check(alloc, tree) {
@@ -24,7 +24,7 @@ fn answer_to_tree(alloc: Global, tree: Script) -> Result<String, AllocError>
 
 // "typed" for tokens that spell a well-typed tree, else what their fault says.
 fn answer_to_tokens(alloc: Global, tokens: &[Token]) -> Result<String, AllocError>
-    requires few { length tokens.now ≤ MOST_BYTES }
+    requires few { length tokens.now ≤ MAX_BYTES }
     requires small { HaveSmallNumbers tokens.now }
 {
     match parse(alloc, tokens) {

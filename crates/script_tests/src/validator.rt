@@ -98,7 +98,7 @@ fn first_wrong(alloc: Global, tables: &[Table<'_>]) -> Result<Option<(usize, usi
     Ok(None)
 }
 
-// The first instruction that isn't refused so, where one instruction is before it and `ret r0`
+// The first instruction that isn't refused so, if one instruction is before it and `ret r0`
 // after it.
 fn first_accepted(
     alloc: Global,
@@ -115,7 +115,7 @@ fn first_accepted(
     Ok(None)
 }
 
-// Instructions of the other kind of register, where r1 has a text.
+// Instructions of the other kind of register, if r1 has a text.
 const AFTER_A_TEXT: [Instr; 15] = [
     Alu(Operator::Add, R1, R0, R2),
     Alu(Operator::Add, R0, R1, R2),

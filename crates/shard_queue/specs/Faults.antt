@@ -1,7 +1,7 @@
 -- Why lists aren't groups of a trace's threads.
 use Rattle.std.specs.Prelude.{◌≡◌, ◌<◌, ◌≤◌, ◌⊎◌, ℤ, not, List, [], ◌∷◌, ◌++◌, length, flat_map}
 use Rattle.std.specs.Prelude.{find, if◌then◌else◌, option_map, Option, Some, None}
-use Rattle.shard_queue.specs.Vocabulary.{Doubled, Firing, GroupFault, MOST_GROUPS, Missing}
+use Rattle.shard_queue.specs.Vocabulary.{Doubled, Firing, GroupFault, MAX_GROUPS, Missing}
 use Rattle.shard_queue.specs.Vocabulary.{Stranger, TooMany, option_or}
 use Rattle.shard_queue.specs.Threads.{has, AreThreads}
 use Rattle.shard_queue.specs.Groupings.{Grouping, grouping_by_lists}
@@ -22,14 +22,14 @@ first_wrong threads before (t ∷ ts) =
 abbrev pub first_missing : (threads listed : List ℤ) → Option GroupFault
 first_missing threads listed = option_map Missing (find (λ t. not (has listed t)) threads)
 
--- the first wrong thread of lists, else the least missing one, where these threads fired
+-- the first wrong thread of lists, else the least missing one, if these threads fired
 abbrev pub thread_fault : (threads : List ℤ) → List (List ℤ) → Option GroupFault
 thread_fault threads lists =
     option_or (first_wrong threads [] (all_of lists)) (first_missing threads (all_of lists))
 
 -- the lists group the trace's threads, each in one list
 pub record IsListed (lists : List (List ℤ)) (trace : List Firing) (groups : Grouping) : Type 0 where
-  pub few : length lists ≤ MOST_GROUPS
+  pub few : length lists ≤ MAX_GROUPS
   pub threads : List ℤ
   pub fired : AreThreads trace threads
   pub faultless : thread_fault threads lists ≡ None
@@ -39,6 +39,6 @@ pub record IsListed (lists : List (List ℤ)) (trace : List Firing) (groups : Gr
 -- missing
 abbrev pub IsListFault : List (List ℤ) → List Firing → GroupFault → Type 0
 IsListFault lists trace fault =
-    ((MOST_GROUPS < length lists) × (fault ≡ TooMany))
-    ⊎ ((length lists ≤ MOST_GROUPS) × ((threads : List ℤ) × AreThreads trace threads
+    ((MAX_GROUPS < length lists) × (fault ≡ TooMany))
+    ⊎ ((length lists ≤ MAX_GROUPS) × ((threads : List ℤ) × AreThreads trace threads
     × (thread_fault threads lists ≡ Some fault)))

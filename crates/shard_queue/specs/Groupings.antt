@@ -44,7 +44,7 @@ is_group g (Some h) = h == g
 abbrev pub of_group : Grouping → ℕ → List Firing → List Firing
 of_group grouping g firings = filter (λ f. is_group g (grouping.group f.thread)) firings
 
--- the places of the threads that pass, where the first has place i
+-- the places of the threads that pass, if the first has place i
 abbrev pub places_from : (ℤ → Bool) → ℕ → List ℤ → List ℕ
 places_from test i [] = []
 places_from test i (t ∷ ts) =

@@ -2,7 +2,7 @@
 use Rattle.std.specs.Prelude.{◌≡◌, ℕ, ◌-◌, ◌^◌, ◌≤◌, ◌⊎◌, min, List}
 use Rattle.shard_queue.specs.Vocabulary.{Low, get_elem?, some}
 
--- where no number was lowered, or shown
+-- if no number was lowered, or shown
 abbrev pub no_number : ℕ
 no_number = 2 ^ 64 - 1
 

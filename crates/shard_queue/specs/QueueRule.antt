@@ -48,7 +48,7 @@ Taken v x w = (w.seats ≡ v.seats) × Took v.seats v.hand x w.hand
 abbrev pub More : QueueView → List ℕ → Type 0
 More v items = v.hand.at_end < v.hand.seats → v.seats ≤ v.hand.end → 0 < length items
 
--- what was drawn, where every seat is counted
+-- what was drawn, if every seat is counted
 abbrev pub Total : QueueView → List ℕ → Type 0
 Total v items = v.hand.seats ≡ v.seats → 0 < v.hand.seats
     → IsHandOut (v.hand.end - v.seats) v.hand.at_end v.hand.drawn

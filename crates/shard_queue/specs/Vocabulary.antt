@@ -17,4 +17,4 @@ pub use Rattle.shard_queue.specs.declared.knowledge.BoardView.{BoardView}
 pub use Rattle.shard_queue.specs.declared.knowledge.Hand.{Hand}
 pub use Rattle.shard_queue.specs.declared.knowledge.Low.{Low}
 pub use Rattle.shard_queue.specs.declared.knowledge.QueueView.{QueueView}
-pub use Rattle.shard_queue.specs.declared.groups.TheConstants.{MOST_GROUPS}
+pub use Rattle.shard_queue.specs.declared.limits.TheConstants.{MAX_GROUPS}

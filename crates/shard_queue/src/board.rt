@@ -9,7 +9,7 @@ ghost use Rattle.shard_queue.specs.Hands.{IsHandOut, hand};
 use crate::board_rule::{Arrives, Claims, Gathers, Looks, Lowers, OneSeat};
 use crate::claim_seat::ClaimSeat;
 use crate::knowledge::BoardView;
-use crate::queue::MOST_WORKERS;
+use crate::limits::MAX_WORKERS;
 use atomic_table::{Seat, Table};
 use std::alloc::{AllocError, Global};
 
@@ -36,7 +36,7 @@ impl ClaimBoard {
     ghost use Rattle.shard_queue.specs.Boards.{least_lowered, least_seen, number_lowered};
     ghost use Rattle.shard_queue.specs.Boards.{number_seen};
 
-    /// A board of the numbers below `end`, and a seat for each worker. Err where memory was
+    /// A board of the numbers below `end`, and a seat for each worker. Err if memory was
     /// refused.
     ///
     /// ```text
@@ -47,7 +47,7 @@ impl ClaimBoard {
         end: u32,
         workers: usize,
     ) -> Result<(ClaimBoard, Vec<ClaimSeat>), AllocError>
-        requires { workers ≤ MOST_WORKERS }
+        requires { workers ≤ MAX_WORKERS }
         ensures board { IfOk result (λ r. (r.0.end ≡ end) × (r.0.workers ≡ workers)) }
         ensures seats { IfOk result
             (λ r. (vec_len r.1 ≡ workers) × All (λ s. IsAt r.0 s × IsNew s) r.1.items) }
@@ -63,7 +63,7 @@ impl ClaimBoard {
         end: u32,
         workers: usize,
     ) -> Result<(ClaimBoard, Seat<(), BoardView>), AllocError>
-        requires { workers ≤ MOST_WORKERS }
+        requires { workers ≤ MAX_WORKERS }
         ensures board { IfOk result (λ r. (r.0.end ≡ end) × (r.0.workers ≡ workers)) }
         ensures rest { IfOk result (λ r. (r.1.table_id ≡ r.0.table.shared.table_id)
             × (r.1.me ≡ (view (hand end workers 0 []) nothing_lowered, []))) }
@@ -192,7 +192,7 @@ impl ClaimBoard {
     }
 
     /// Each seat's list, and the least number. With all seats, the lists have the numbers below
-    /// some front, each once, and all if a seat is at the end. Err where memory was refused.
+    /// some front, each once, and all if a seat is at the end. Err if memory was refused.
     ///
     /// ```text
     /// let closed = board.close(alloc, seats)?;

@@ -4,20 +4,21 @@ ghost use Rattle.std.specs.Prelude.{◌≡◌, ◌<◌, ◌≤◌, ◌%◌, map,
 ghost use Rattle.shard_queue.specs.{Groupings.IsDealt, Numbers.below, Threads.run_threads};
 ghost use Rattle.shard_queue.specs.Groups.{AreOf, grouping};
 
-use crate::groups::{Groups, MOST_GROUPS};
+use crate::groups::Groups;
+use crate::limits::MAX_GROUPS;
 use firings::Trace;
 use std::alloc::{AllocError, Global};
 
 impl Groups {
     /// Deals the trace's threads into this many groups, with one of thread 0 after them: the i-th
-    /// thread, ascending, goes to group `i` modulo their number. Err where memory was refused.
+    /// thread, ascending, goes to group `i` modulo their number. Err if memory was refused.
     ///
     /// ```text
     /// let groups = Groups::deal(alloc, &trace, 2)?; // of a trace whose threads are 9, 3, 9, 5
     /// groups.group_of(9) // Some(0), as of 3, 5 and 9 it is the third
     /// ```
     pub fn deal(alloc: Global, trace: &Trace, groups: u32) -> Result<Groups, AllocError>
-        requires { (0 < groups) × (groups ≤ MOST_GROUPS) }
+        requires { (0 < groups) × (groups ≤ MAX_GROUPS) }
         ensures dealt { IfOk result (λ r. IsDealt groups trace.now (grouping r)) }
         ensures of { IfOk result (λ r. AreOf r (run_threads trace.now)) }
     {

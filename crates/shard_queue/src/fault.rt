@@ -3,7 +3,7 @@
 ghost use Rattle.std.specs.Prelude.{◌≡◌};
 ghost use Rattle.shard_queue.specs.declared.fault.GroupFault.TheVariants.{Memory};
 
-use crate::groups::MOST_GROUPS;
+use crate::limits::MAX_GROUPS;
 use std::alloc::AllocError;
 use thiserror::Error;
 
@@ -20,8 +20,8 @@ pub enum GroupFault {
     /// A thread in a list that didn't fire.
     #[error("thread {thread} is listed and did not fire")]
     Stranger { thread: i32 },
-    /// More than `MOST_GROUPS` lists.
-    #[error("more than {most} lists", most = MOST_GROUPS)]
+    /// More than `MAX_GROUPS` lists.
+    #[error("more than {most} lists", most = MAX_GROUPS)]
     TooMany,
     /// Memory was refused.
     #[error("out of memory")]

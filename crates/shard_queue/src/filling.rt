@@ -7,8 +7,9 @@ ghost use Rattle.shard_queue.specs.Groupings.{places_of, with_own_group};
 ghost use Rattle.shard_queue.specs.Groups.{AreOf, grouping, places};
 ghost use Rattle.shard_queue.specs.Threads.{AreThreads, run_threads};
 
-use crate::groups::{Groups, MOST_GROUPS};
-use firings::{Firings, MOST_ROWS, OwnerPlaces, Trace};
+use crate::groups::Groups;
+use crate::limits::MAX_GROUPS;
+use firings::{Firings, MAX_ROWS, OwnerPlaces, Trace};
 use std::alloc::{AllocError, Global};
 
 impl Groups {
@@ -23,7 +24,7 @@ impl Groups {
     ) -> Result<Groups, AllocError>
         requires threads { AreThreads trace.now threads.items }
         requires numbers { (vec_len numbers ≡ vec_len threads) × All (λ g. g < own) numbers.items }
-        requires few { own ≤ MOST_GROUPS }
+        requires few { own ≤ MAX_GROUPS }
         ensures grouping { IfOk result (λ r. grouping r
             ≡ with_own_group own (λ t. lookup (int_eq t) (zip threads.items numbers.items))) }
         ensures of { IfOk result (λ r. AreOf r (run_threads trace.now)) }
@@ -42,7 +43,7 @@ impl Groups {
     // Notes the places of the firings, with BEGIN before them and END after them.
     fn fill(&mut self, firings: &Firings) -> Result<(), AllocError>
         requires empty { (g : ℕ) → places self.old g ≡ [] }
-        requires few { length firings.now ≤ MOST_ROWS }
+        requires few { length firings.now ≤ MAX_ROWS }
         ensures grouping { OnOk result (grouping self.new ≡ grouping self.old) }
         ensures places { OnOk result ((g : ℕ) → places self.new g
             ≡ places_of (grouping self.old) g (run_threads firings.now)) }

@@ -9,9 +9,6 @@ ghost use Rattle.shard_queue.specs.Vocabulary.{int_cmp};
 use crate::threads::place_of;
 use std::alloc::AllocError;
 
-/// The most groups that lists or a deal may make, beside that of thread 0.
-pub const MOST_GROUPS: u32 = 4096;
-
 /// Which thread is in which group, and for each group the places of its firings in the run: BEGIN
 /// has place 0, the rows of the trace follow, and END is the last.
 #[derive(Drop)]

@@ -11,7 +11,7 @@ pub struct Hand {
     pub drawn: LinkedList<u32>,
 }
 
-/// The least number that some seats lowered, and the least that they were shown; 2^64 - 1 where
+/// The least number that some seats lowered, and the least that they were shown; 2^64 - 1 if
 /// none.
 pub struct Low {
     pub lowered: u64,

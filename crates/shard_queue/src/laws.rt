@@ -12,7 +12,7 @@ ghost use Rattle.shard_queue.specs.Least.{IsLeastLowered, low};
 ghost use Rattle.shard_queue.specs.Groupings.{Grouping, of_group, places_of};
 ghost use Rattle.shard_queue.specs.Numbers.{IsAllBelow, SameItems, below};
 
-/// Lists of numbers have the same items exactly where one is the other in some order.
+/// Lists of numbers have the same items exactly if one is the other in some order.
 pub fn same_items_are_permutations()
     ensures { (xs ys : List ℕ) → SameItems xs ys ↔ IsPermutation xs ys }
 {}
@@ -26,7 +26,7 @@ pub fn each_number_once()
         → count_by (λ y. y == x) xs ≡ 0 }
 {}
 
-/// Where each thread has a group, the places of all groups together are those of the whole run,
+/// If each thread has a group, the places of all groups together are those of the whole run,
 /// each once.
 pub fn each_place_in_one_group()
     ensures { (grouping : Grouping) (threads : List ℤ)
@@ -42,9 +42,9 @@ pub fn firings_at_the_places()
         ≡ map Some (of_group grouping g firings) }
 {}
 
-/// A board's rule doesn't hold after a store in place of its steps. Where a seat claims by a look
+/// A board's rule doesn't hold after a store in place of its steps. If a seat claims by a look
 /// and then a store, and another one claimed in between, the number that was found is handed out
-/// twice. Where a seat stores a number in place of lowering to it, a lesser one is lost.
+/// twice. If a seat stores a number in place of lowering to it, a lesser one is lost.
 pub fn stores_are_not_kept()
     ensures claimed { (n seats word found by : ℕ) (views : List Hand) (v : Hand)
         → Draws n seats word views → get_elem? views by ≡ some v → found < min n word

@@ -13,7 +13,8 @@ ghost use Rattle.shard_queue.specs.Vocabulary.{Doubled, IsStrictlySortedBy, Memo
 ghost use Rattle.shard_queue.specs.Vocabulary.{int_cmp};
 
 use crate::fault::GroupFault;
-use crate::groups::{Groups, MOST_GROUPS};
+use crate::groups::Groups;
+use crate::limits::MAX_GROUPS;
 use crate::threads::place_of;
 use firings::Trace;
 use std::alloc::{AllocError, Global};
@@ -38,7 +39,7 @@ impl Groups {
         ensures fault { IfErr result
             (λ e. (e ≡ Memory) ⊎ IsListFault (items_of lists.now) trace.now e) }
     {
-        if lists.len() > MOST_GROUPS as usize {
+        if lists.len() > MAX_GROUPS as usize {
             return Err(GroupFault::TooMany);
         }
         let threads = trace.threads(alloc)?;
@@ -52,7 +53,7 @@ impl Groups {
 // The number of each thread's list.
 fn list_numbers(alloc: Global, threads: &[i32], lists: &[Vec<i32>]) -> Result<Vec<u32>, GroupFault>
     requires ascending { IsStrictlySortedBy int_cmp threads.now }
-    requires few { length lists.now ≤ MOST_GROUPS }
+    requires few { length lists.now ≤ MAX_GROUPS }
     ensures right { OnOk result (first_wrong threads.now [] (all_of (items_of lists.now)) ≡ None) }
     ensures whole { OnOk result (first_missing threads.now (all_of (items_of lists.now)) ≡ None) }
     ensures numbers { IfOk result
@@ -83,7 +84,7 @@ fn note_list(
     list: usize,
 ) -> Result<(), GroupFault>
     requires ascending { IsStrictlySortedBy int_cmp threads.now }
-    requires few { (list < length lists.now) × (length lists.now ≤ MOST_GROUPS) }
+    requires few { (list < length lists.now) × (length lists.now ≤ MAX_GROUPS) }
     requires before { found.old ≡ map (list_of (take list (items_of lists.now))) threads.now }
     ensures noted { OnOk result
         (found.new ≡ map (list_of (take (list + 1) (items_of lists.now))) threads.now) }
@@ -127,7 +128,7 @@ fn note(
     Ok(())
 }
 
-// The number of each thread's list, where every thread is in one.
+// The number of each thread's list, if every thread is in one.
 fn every_number(
     alloc: Global,
     threads: &[i32],

@@ -7,16 +7,13 @@ ghost use Rattle.shard_queue.specs.Hands.{IsHandOut, hand};
 ghost use Rattle.shard_queue.specs.QueueRule.{among, joint};
 ghost use Rattle.shard_queue.specs.Vocabulary.{IsPassOf, pass_view};
 
-use crate::groups::MOST_GROUPS;
 use crate::knowledge::QueueView;
+use crate::limits::{MAX_GROUPS, MAX_WORKERS};
 use crate::queue_rule::{Deals, Gathers, Grows, OneSeat, Puts, Takes};
 use crate::queue_seat::QueueSeat;
 use crossbeam_queue::{Pass, RuledArrayQueue};
 use std::alloc::{AllocError, Global};
 use std::sync::Wait;
-
-/// The most workers that share a queue or a board.
-pub const MOST_WORKERS: u32 = 16;
 
 /// Hands out the numbers below its end.
 #[derive(Drop)]
@@ -30,7 +27,7 @@ pub struct GroupQueue {
 impl GroupQueue {
     ghost use Rattle.shard_queue.specs.Queues.{IsIn, IsUnused, queue_numbers, queue_seats_at_end};
 
-    /// A queue of the numbers below `end`, and a seat for each worker. Err where memory was
+    /// A queue of the numbers below `end`, and a seat for each worker. Err if memory was
     /// refused.
     ///
     /// ```text
@@ -42,7 +39,7 @@ impl GroupQueue {
         end: u32,
         workers: u32,
     ) -> Result<(GroupQueue, Vec<QueueSeat>), AllocError>
-        requires { (end ≤ MOST_GROUPS + 1) × (0 < workers) × (workers ≤ MOST_WORKERS) }
+        requires { (end ≤ MAX_GROUPS + 1) × (0 < workers) × (workers ≤ MAX_WORKERS) }
         ensures queue { IfOk result (λ r. (r.0.end ≡ end) × (r.0.workers ≡ workers)) }
         ensures seats { IfOk result
             (λ r. (vec_len r.1 ≡ workers) × All (λ s. IsIn r.0 s × IsUnused s) r.1.items) }
@@ -60,7 +57,7 @@ impl GroupQueue {
         end: u32,
         workers: u32,
     ) -> Result<(GroupQueue, Pass<u32, QueueView>), AllocError>
-        requires { (end ≤ MOST_GROUPS + 1) × (0 < workers) × (workers ≤ MOST_WORKERS) }
+        requires { (end ≤ MAX_GROUPS + 1) × (0 < workers) × (workers ≤ MAX_WORKERS) }
         ensures queue { IfOk result (λ r. (r.0.end ≡ end) × (r.0.workers ≡ workers)) }
         ensures pass { IfOk result
             (λ r. IsPassOf r.0.queue r.1 × (pass_view r.1 ≡ among 1 (hand 0 1 0 []))) }
@@ -90,7 +87,7 @@ impl GroupQueue {
 
     // Puts each number, and the marks.
     fn fill<R: Wait>(&self, rt: &R, mut pass: Pass<u32, QueueView>) -> Pass<u32, QueueView>
-        requires end { (self.now.end ≤ MOST_GROUPS + 1) × (self.now.workers ≤ MOST_WORKERS) }
+        requires end { (self.now.end ≤ MAX_GROUPS + 1) × (self.now.workers ≤ MAX_WORKERS) }
         requires pass { IsPassOf self.now.queue pass
             × (pass_view pass ≡ among self.now.workers (hand 0 self.now.workers 0 [])) }
         ensures { let seats = self.now.workers in IsPassOf self.now.queue result
@@ -176,7 +173,7 @@ impl GroupQueue {
     }
 
     /// Each seat's list. With all seats, they have the numbers below some front, each once, and all
-    /// if a seat is at the end. Err where memory was refused.
+    /// if a seat is at the end. Err if memory was refused.
     ///
     /// ```text
     /// queue.close(alloc, seats)? // as [[0, 2], [1]], where the first seat took 0 and 2

@@ -7,15 +7,15 @@ use Rattle.streams.specs.Stream.{FeedSeen, LosesBeginning}
 use Rattle.streams.specs.Turns.{GoesOn, IsReading, IsTurn}
 use Rattle.streams.specs.declared.reading.ReadFault.{ReadFault}
 use Rattle.streams.specs.declared.reading.ReadFault.TheVariants.{Failed, Memory}
-use Rattle.streams.specs.declared.reading.TheConstants.{MOST_CALLS}
+use Rattle.streams.specs.declared.reading.TheConstants.{MAX_CALLS}
 
 -- it has made these calls of a feed, and goes on
 pub record HasMade (old now : FeedSeen) (calls_left : ℕ) : Type 0 where
   pub going : GoesOn calls_left now
-  pub counted : now.calls + calls_left ≡ old.calls + MOST_CALLS
+  pub counted : now.calls + calls_left ≡ old.calls + MAX_CALLS
   pub rest : LosesBeginning old.remaining now.remaining
 
-pub none_made : (feed : FeedSeen) (left : ℕ) → left ≡ MOST_CALLS → IsFalse feed.has_failed → HasMade feed feed left
+pub none_made : (feed : FeedSeen) (left : ℕ) → left ≡ MAX_CALLS → IsFalse feed.has_failed → HasMade feed feed left
 none_made feed left most works = record {
   going = record { works = works; few = omega (arith, most); goes_on = λ less. absurd (omega (arith, most, less)) };
   counted = omega (arith, most);

@@ -10,7 +10,7 @@ pub data TakesBlocks {T : Type 0} (Takes : T → List ℕ → T → Type 0) (old
   more : (bytes block : List ℕ) (mid new : T) → TakesBlocks Takes old bytes mid
       → Takes mid block new → TakesBlocks Takes old (bytes ++ block) new
 
--- it takes the bytes that were to be read; where these are not known, some
+-- it takes the bytes that were to be read; if these are not known, some
 pub record TakesInput {T : Type 0} (Takes : T → List ℕ → T → Type 0)
     (remaining : Option (List ℕ)) (old new : T) : Type 0 where
   pub input : List ℕ

@@ -29,8 +29,8 @@ pub record FeedSeen : Type 0 where
 abbrev pub AppendsBeginning : Option (List ℕ) → Option (List ℕ) → List ℕ → Type 0
 AppendsBeginning old new bs = (k : ℕ) × (k < length bs) × Appends old new (take k bs)
 
--- The sink's bytes grow by bs, and are flushed. Where it failed they grow by a beginning of bs, or
--- by all of it where only the flush failed.
+-- The sink's bytes grow by bs, and are flushed. If it failed they grow by a beginning of bs, or
+-- by all of it if only the flush failed.
 pub record IsSent (bs : List ℕ) (old new : SinkSeen) : Type 0 where
   pub bytes : MatchBool new.has_failed
       ((k : ℕ) × (k ≤ length bs) × Appends old.bytes new.bytes (take k bs))

@@ -1,17 +1,17 @@
--- Reading a feed turn by turn, where a turn makes some of the calls that are left.
+-- Reading a feed turn by turn, if a turn makes some of the calls that are left.
 use Rattle.std.specs.Prelude.{◌≡◌, ◌⊎◌, ℕ, ◌+◌, ◌<◌, ◌≤◌, Bool, Result, Err, IfOk, MatchBool}
 use Rattle.std.specs.Prelude.{IsTrue, IsFalse, OnOk}
 use Rattle.std.specs.Io.KnownBytes.{IsAtEnd}
 use Rattle.streams.specs.declared.reading.ReadFault.{ReadFault}
 use Rattle.streams.specs.declared.reading.ReadFault.TheVariants.{Failed, Memory}
-use Rattle.streams.specs.declared.reading.TheConstants.{MOST_CALLS}
+use Rattle.streams.specs.declared.reading.TheConstants.{MAX_CALLS}
 use Rattle.streams.specs.Stream.{FeedSeen, LosesBeginning}
 
 -- no call of the feed has failed, and if some were made, none has reported the end
 pub record GoesOn (calls_left : ℕ) (feed : FeedSeen) : Type 0 where
   pub works : IsFalse feed.has_failed
-  pub few : calls_left ≤ MOST_CALLS
-  pub goes_on : calls_left < MOST_CALLS → IsFalse feed.has_ended
+  pub few : calls_left ≤ MAX_CALLS
+  pub goes_on : calls_left < MAX_CALLS → IsFalse feed.has_ended
 
 -- the last call reported the end of the feed, and nothing is left
 pub record HasEnded (feed : FeedSeen) : Type 0 where
@@ -19,7 +19,7 @@ pub record HasEnded (feed : FeedSeen) : Type 0 where
   pub ended : IsTrue feed.has_ended
   pub nothing_left : IsAtEnd feed.remaining
 
--- A turn makes calls, and returns whether the feed has ended. It fails where a call did, or where
+-- A turn makes calls, and returns whether the feed has ended. It fails if a call did, or if
 -- there is none left and the feed hasn't ended.
 pub record IsTurn (old new : FeedSeen) (calls_left calls_left' : ℕ) (result : Result Bool ReadFault)
     : Type 0 where
@@ -33,7 +33,7 @@ pub record IsTurn (old new : FeedSeen) (calls_left calls_left' : ℕ) (result : 
 -- the feed failed, or had not ended after the most calls
 abbrev pub IsCutShort : (old new : FeedSeen) → Type 0
 IsCutShort old new =
-    IsTrue new.has_failed ⊎ (IsFalse new.has_ended × (new.calls ≡ old.calls + MOST_CALLS))
+    IsTrue new.has_failed ⊎ (IsFalse new.has_ended × (new.calls ≡ old.calls + MAX_CALLS))
 
 -- a reading makes no more than the most calls, and comes to the feed's end or a fault
 pub record IsReading {A : Type 0} (old new : FeedSeen) (result : Result A ReadFault) : Type 0 where
@@ -41,4 +41,4 @@ pub record IsReading {A : Type 0} (old new : FeedSeen) (result : Result A ReadFa
   pub failed : result ≡ Err Failed → IsCutShort old new
   pub memory : result ≡ Err Memory → IsFalse new.has_failed
   pub rest : LosesBeginning old.remaining new.remaining
-  pub few : new.calls ≤ old.calls + MOST_CALLS
+  pub few : new.calls ≤ old.calls + MAX_CALLS

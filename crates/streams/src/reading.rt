@@ -21,7 +21,7 @@ pub enum ReadFault {
 }
 
 /// The most calls of `get` that one reading makes.
-pub const MOST_CALLS: u64 = 1 << 32;
+pub const MAX_CALLS: u64 = 1 << 32;
 
 // The bytes that one call may give.
 const ROOM: usize = 1 << 16;
@@ -43,12 +43,12 @@ impl Reading {
     /// reading.calls_left; // 4,294,967,296
     /// ```
     pub fn new(alloc: Global) -> Result<Reading, ReadFault>
-        ensures reading { IfOk result (λ r. r.calls_left ≡ MOST_CALLS) }
+        ensures reading { IfOk result (λ r. r.calls_left ≡ MAX_CALLS) }
         ensures fault { IfErr result (λ e. e ≡ ReadFault.Memory) }
     {
         let buffer = vec![in alloc; 0u8; ROOM].map_err(|_| ReadFault::Memory)?;
         Ok(Reading {
-            calls_left: MOST_CALLS,
+            calls_left: MAX_CALLS,
             buffer,
         })
     }

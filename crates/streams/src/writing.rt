@@ -11,7 +11,7 @@ use thiserror::Error;
 #[error("write failed")]
 pub struct WriteFault;
 
-/// Writes the bytes, each once and in order, and takes no memory. A fault comes exactly where the
+/// Writes the bytes, each once and in order, and takes no memory. A fault comes exactly if the
 /// sink fails; what went out is then a beginning of the bytes, and not all of them.
 ///
 /// ```text
@@ -37,7 +37,7 @@ pub fn emit<S: Sink>(sink: &mut S, bytes: &[u8]) -> Result<(), WriteFault>
     Ok(())
 }
 
-/// Writes the bytes as `emit` does, and flushes the sink. A fault comes exactly where the sink
+/// Writes the bytes as `emit` does, and flushes the sink. A fault comes exactly if the sink
 /// fails.
 ///
 /// ```text

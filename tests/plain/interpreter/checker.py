@@ -18,7 +18,7 @@ from .values import COMPARISONS, INT, LONG, TEXT, UNSIGNED_LONG, common, constan
     NO_REGISTER,
 ) = range(1, 10)
 
-MOST_KEYS = 8
+MAX_KEYS = 8
 BUILT_INS = {f"arg{place}": LONG for place in range(10)} | {"timestamp": UNSIGNED_LONG}
 BUILT_INS |= dict.fromkeys(["cpu", "pid", "tid"], INT)
 BUILT_INS |= dict.fromkeys(["execname", "probeprov", "probemod", "probefunc", "probename"], TEXT)
@@ -131,7 +131,7 @@ class Checker:
     def declaration(self, declaration):
         if (declaration.space, declaration.name) in self.variables:
             refuse(MISMATCH, declaration)
-        if len(declaration.keys or []) > MOST_KEYS:
+        if len(declaration.keys or []) > MAX_KEYS:
             refuse(KEYS, declaration)
         kinds = None if declaration.keys is None else kinds_of(declaration.keys)
         self.variables[declaration.space, declaration.name] = Variable(kinds, declaration.type)
@@ -156,7 +156,7 @@ class Checker:
         return found
 
     def count_registers(self, expression):
-        if registers.need(expression) > registers.MOST:
+        if registers.need(expression) > registers.MAX_NEED:
             refuse(NO_REGISTER, expression)
 
     def aggregation(self, statement):
@@ -167,7 +167,7 @@ class Checker:
         if len(types) not in AGGREGATING[statement.function] or TEXT in types:
             refuse(MISMATCH, statement)
         known = self.aggregations.get(statement.name)
-        if len(kinds) > MOST_KEYS or (known and known.kinds != kinds):
+        if len(kinds) > MAX_KEYS or (known and known.kinds != kinds):
             refuse(KEYS, statement)
         is_linear = statement.function == "lquantize"
         linear = linear_range(statement.arguments[1:]) if is_linear else None
@@ -236,7 +236,7 @@ class Checker:
                 place,
             )
         known = self.variables.setdefault((place.space, place.name), Variable(kinds))
-        if known.kinds != kinds or len(kinds or ()) > MOST_KEYS:
+        if known.kinds != kinds or len(kinds or ()) > MAX_KEYS:
             refuse(KEYS, place)
         return known
 

@@ -5,7 +5,7 @@ from functools import lru_cache
 from typing import NamedTuple
 
 PIECE = re.compile(rb"%%|%([-0]*)([1-9][0-9]*)?(?:hh|h|ll|l)?([diuxos])|([^%]+)", re.DOTALL)
-MOST_WIDTH = 255
+MAX_WIDTH = 255
 
 
 class Conversion(NamedTuple):
@@ -57,7 +57,7 @@ def pieces(text):
 
 def conversion(flags, width, letter):
     """A conversion, or None where it is too wide."""
-    if width and (len(width) > 3 or int(width) > MOST_WIDTH):
+    if width and (len(width) > 3 or int(width) > MAX_WIDTH):
         return None
     return Conversion(letter.decode(), int(width or 0), b"-" in flags, b"0" in flags)
 

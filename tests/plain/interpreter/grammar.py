@@ -5,7 +5,7 @@ from . import tree
 from .refusals import Refused
 from .values import TEXT, IntType
 
-MOST_OPEN, MOST_IN_A_ROW, MOST_CLAUSES = 64, 1_024, 256
+MAX_OPEN, MAX_IN_A_ROW, MAX_CLAUSES = 64, 1_024, 256
 SYNTAX, TOO_DEEP, TOO_MANY_CLAUSES = 1, 2, 3
 
 WIDTHS = {"": 32, "char": 8, "short": 16, "short int": 16, "int": 32}
@@ -34,7 +34,7 @@ def parse(tokens):
     """The tree of a script's tokens, a list of declarations and clauses, or why they have none."""
     if is_too_deep(tokens):
         raise Refused("Parse", TOO_DEEP)
-    if sum(is_mark(token, "{") for token in tokens) > MOST_CLAUSES:
+    if sum(is_mark(token, "{") for token in tokens) > MAX_CLAUSES:
         raise Refused("Parse", TOO_MANY_CLAUSES)
     return Parser(tokens).script()
 
@@ -50,7 +50,7 @@ def is_too_deep(tokens):
         says = token.says if token.kind == "mark" else None
         opened = max(0, opened + (says in ("(", "[")) - (says in (")", "]")))
         in_a_row = 0 if says in (";", "{", "}") else in_a_row + 1
-        if opened > MOST_OPEN or in_a_row > MOST_IN_A_ROW:
+        if opened > MAX_OPEN or in_a_row > MAX_IN_A_ROW:
             return True
     return False
 

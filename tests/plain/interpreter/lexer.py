@@ -4,8 +4,8 @@ from typing import NamedTuple
 
 from .refusals import Refused
 
-MOST_BYTES = 65_536
-MOST_NUMBER = 2**64 - 1
+MAX_BYTES = 65_536
+MAX_NUMBER = 2**64 - 1
 TOO_LONG, BAD_BYTE, UNCLOSED, CONSTANT, ESCAPE, OPTION_LINE = range(1, 7)
 
 BLANKS = re.compile(rb"[ \t\r\n\v\f]*")
@@ -40,7 +40,7 @@ class Token(NamedTuple):
 
 def lex(script):
     """The tokens of a script, or its first fault."""
-    if len(script) > MOST_BYTES:
+    if len(script) > MAX_BYTES:
         raise Refused("Lex", TOO_LONG)
     return Lexer(script).tokens()
 
@@ -146,7 +146,7 @@ class Lexer:
             if octal
             else decimal_value(decimal)
         )
-        if value > MOST_NUMBER:
+        if value > MAX_NUMBER:
             self.refuse(CONSTANT)
         return self.token("number", (value, (suffix or b"").lower().decode()), digits.end())
 
@@ -209,4 +209,4 @@ class Lexer:
 def decimal_value(digits):
     """The value of decimal digits. Over twenty of them it is too large whatever they are, and isn't
     computed."""
-    return int(digits) if len(digits) <= 20 else MOST_NUMBER + 1
+    return int(digits) if len(digits) <= 20 else MAX_NUMBER + 1

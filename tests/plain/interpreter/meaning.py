@@ -4,7 +4,7 @@ from dataclasses import dataclass, field
 from functools import lru_cache
 
 from . import formats, tree
-from .values import COMPARISONS, LONG, MOST_TEXT, TEXT, DivideByZero, compare, operate
+from .values import COMPARISONS, LONG, MAX_TEXT, TEXT, DivideByZero, compare, operate
 
 BUILT_INS = {
     "timestamp": lambda firing: firing.time,
@@ -153,7 +153,7 @@ class Evaluation:
             case tree.Number():
                 return expression.value
             case tree.Text():
-                return expression.content[:MOST_TEXT]
+                return expression.content[:MAX_TEXT]
             case tree.Place(space=""):
                 return BUILT_INS[expression.name](self.firing)
             case tree.Place():
@@ -228,7 +228,7 @@ class Evaluation:
 
     def call(self, call):
         values = [self.value(argument) for argument in call.arguments]
-        return len(values[0]) if call.name == "strlen" else b"".join(values)[:MOST_TEXT]
+        return len(values[0]) if call.name == "strlen" else b"".join(values)[:MAX_TEXT]
 
 
 def convert(value, of_type):

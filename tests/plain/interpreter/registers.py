@@ -1,7 +1,7 @@
 """How many registers an expression needs (docs/LANGUAGE.md, "Registers")."""
 from . import tree
 
-MOST = 6
+MAX_NEED = 6
 LAZY = ("&&", "||")
 
 

@@ -9,7 +9,7 @@ COLUMNS = "number,cpu,thread,pid,execname,time,provider,module,function,name".sp
 ]
 HEADER = [name.encode() for name in COLUMNS]
 BYTE_ORDER_MARK = b"\xef\xbb\xbf"
-MOST_ROWS, MOST_TEXT, MOST_DIGITS = 1_000_000, 255, 20
+MAX_ROWS, MAX_TEXT, MAX_DIGITS = 1_000_000, 255, 20
 NO_HEADER, BAD_COLUMNS, BAD_NUMBER, BAD_ORDER, BAD_TEXT, RESERVED, TOO_MANY = range(1, 8)
 
 # a field that begins with a quote: its quoted part, and what is between that and its end
@@ -39,7 +39,7 @@ def read(trace):
         raise Refused("Trace", NO_HEADER)
     rows, before = [], 0
     for row, fields in enumerate(rest, 1):
-        if row > MOST_ROWS:
+        if row > MAX_ROWS:
             raise Refused("Trace", TOO_MANY)
         rows.append(firing(row, fields, before))
         before = rows[-1].number
@@ -114,7 +114,7 @@ def value(row, column, field):
         if found is None or not least <= found <= greatest:
             raise Refused("Trace", BAD_NUMBER, row=row, column=column)
         return found
-    if len(field) > MOST_TEXT or b"\0" in field or not is_utf8(field):
+    if len(field) > MAX_TEXT or b"\0" in field or not is_utf8(field):
         raise Refused("Trace", BAD_TEXT, row=row, column=column)
     return field
 
@@ -125,7 +125,7 @@ def number(field, is_argument):
         return 0
     has_minus = is_argument and field.startswith(b"-")
     digits = field[has_minus:]
-    if not digits.isdigit() or len(digits.lstrip(b"0")) > MOST_DIGITS:
+    if not digits.isdigit() or len(digits.lstrip(b"0")) > MAX_DIGITS:
         return None
     found = int(digits.lstrip(b"0") or b"0")
     return -found if has_minus else found

@@ -3,7 +3,7 @@ that it stands for."""
 from typing import NamedTuple
 
 TEXT = "text"
-MOST_TEXT = 255
+MAX_TEXT = 255
 
 
 class IntType(NamedTuple):

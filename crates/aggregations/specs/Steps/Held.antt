@@ -11,7 +11,7 @@ use Rattle.aggregations.specs.declared.held.Held.TheVariants.{
   Counts,
 }
 
--- 0 where no count is held, or many
+-- 0 if no count is held, or many
 abbrev pub count_of : Held → ℕ
 count_of (Counted n) = n
 count_of (Summed s) = 0
@@ -20,7 +20,7 @@ count_of (Greatest m) = 0
 count_of (Mean m) = m.count
 count_of (Counts h) = 0
 
--- 0 where no number is held
+-- 0 if no number is held
 abbrev pub number_of : Held → ℤ
 number_of (Counted n) = pos 0
 number_of (Summed s) = s

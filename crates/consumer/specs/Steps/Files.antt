@@ -1,8 +1,8 @@
 -- The script in a file, of which no more is read than shows that it is too long.
 use Rattle.std.specs.Prelude.{◌≡◌, ◌<◌, ◌⊎◌, ◌++◌, ℕ, List, length}
-use Rattle.consumer.specs.Vocabulary.{MOST_BYTES}
+use Rattle.consumer.specs.Vocabulary.{MAX_BYTES}
 
 -- all of the file, or a beginning of it that no script can have
 abbrev pub IsScriptIn : (all script : List ℕ) → Type 0
 IsScriptIn all script = (script ≡ all)
-    ⊎ ((MOST_BYTES < length script) × (rest : List ℕ) × (all ≡ script ++ rest))
+    ⊎ ((MAX_BYTES < length script) × (rest : List ℕ) × (all ≡ script ++ rest))

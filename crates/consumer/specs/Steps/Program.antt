@@ -1,4 +1,4 @@
--- How the program ends where the words ask for a run.
+-- How the program ends if the words ask for a run.
 use Rattle.std.specs.Prelude.{◌≡◌, ℕ, List, Option, Result}
 use Rattle.replay_core.specs.Layouts.{LayoutMeant}
 use Rattle.consumer.specs.Program.{IsRunOf, StreamsSeen}

@@ -13,7 +13,7 @@ abbrev pub is_closing : TokenKind → Bool
 is_closing (TokenKind.Mark Mark.ClosingSlash) = true
 is_closing t = false
 
--- a token, where an opening brace comes next or doesn't
+-- a token, if an opening brace comes next or doesn't
 abbrev pub settle_token : Token → Bool → Token
 settle_token t brace = if brace then t else record t { kind = open_kind t.kind }
 

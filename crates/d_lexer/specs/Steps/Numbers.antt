@@ -34,7 +34,7 @@ suffix_by_letters (a ∷ b ∷ c ∷ d ∷ z) = None
 abbrev pub one_digit_more : ℕ → ℕ → ℕ → Option ℕ
 one_digit_more base n k = if nat_lt (n * base + k) (2 ^ 64) then Some (n * base + k) else None
 
--- the number, where what comes after its digits is a suffix
+-- the number, if what comes after its digits is a suffix
 abbrev pub with_suffix : ℕ → Option Suffix → Option (ℕ × Suffix)
 with_suffix n None = None
 with_suffix n (Some s) = Some (n, s)
@@ -51,7 +51,7 @@ number_from base n [] = Some (n, Absent)
 number_from base n (d ∷ ds) =
     number_by (λ k. number_from base k ds) base n (d ∷ ds) (digit_of base d)
 
--- hexadecimal digits, where the first byte is one
+-- hexadecimal digits, if the first byte is one
 abbrev pub hex_by : List ℕ → Option ℕ → Option (ℕ × Suffix)
 hex_by z None = None
 hex_by z (Some k) = number_from 16 0 z

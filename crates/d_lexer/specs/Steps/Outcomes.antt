@@ -1,7 +1,7 @@
 -- This crate's word for "exactly the definition, unless memory ran out", in all its contracts.
 use Rattle.std.specs.Prelude.{◌≡◌, Option, Some, None, Result, Ok, Err}
 
--- the definition has this fault; where there is none, memory was refused, and nothing is claimed
+-- the definition has this fault; if there is none, memory was refused, and nothing is claimed
 abbrev pub Fails : {Y Fault : Type 0} → Option Fault → Result Y Fault → Type 0
 Fails None read = Unit {0}
 Fails (Some fault) read = read ≡ Err fault

@@ -14,7 +14,7 @@ use Rattle.d_lexer.specs.{Steps.Numbers.number_spelled, Steps.Marks.mark_by, Fau
 use Rattle.d_lexer.specs.{Steps.OptionLine.is_option}
 use Rattle.d_lexer.specs.Steps.Outcomes.{Gives as GivesBy}
 
--- the flaw for which a step stops, none where memory was refused
+-- the flaw for which a step stops, none if memory was refused
 abbrev pub flaw_of : Stop → Option Flaw
 flaw_of Stop.Memory = None
 flaw_of (Stop.Flawed g) = Some g
@@ -80,20 +80,20 @@ comment_from [] = None
 comment_from (b ∷ z) =
     if b == byte "*" && next_is (byte "/") z then Some 2 else one_longer (comment_from z)
 
--- a mark with its length less one, or the other where there is none
+-- a mark with its length less one, or the other if there is none
 abbrev pub with_length : ℕ → Option Mark → Option (Mark × ℕ) → Option (Mark × ℕ)
 with_length n None other = other
 with_length n (Some k) other = Some (k, n)
 
--- the mark where one byte is left
+-- the mark if one byte is left
 abbrev pub one_at : Place → ℕ → Option (Mark × ℕ)
 one_at p a = with_length 0 (mark_by p (a ∷ [])) None
 
--- where two are
+-- if two are
 abbrev pub two_at : Place → ℕ → ℕ → Option (Mark × ℕ)
 two_at p a b = with_length 1 (mark_by p (a ∷ b ∷ [])) (one_at p a)
 
--- where three or more are
+-- if three or more are
 abbrev pub three_at : Place → ℕ → ℕ → ℕ → Option (Mark × ℕ)
 three_at p a b c = with_length 2 (mark_by p (a ∷ b ∷ c ∷ [])) (two_at p a b)
 

@@ -9,7 +9,7 @@ abbrev pub ending_on : ℕ → ParseFault → ParseFault
 ending_on line (faults.Syntax zero) = faults.Syntax line
 ending_on line e = e
 
--- the line of the first of these tokens, and 0 where there are none
+-- the line of the first of these tokens, and 0 if there are none
 abbrev pub line_at : List Token → ℕ
 line_at [] = 0
 line_at (t ∷ ts) = t.line

@@ -186,7 +186,7 @@ module _ (down : Readers) where
   unary_by k (TokenKind.Mark mark) line ts = unary_at_mark mark line ts
   unary_by k other line ts = None
 
-  -- a unary expression, or where the level allows it an assignment
+  -- a unary expression, or if the level allows it an assignment
   unfoldable pub unary : ℕ → Reader Tree
   unary k [] = None
   unary k (t ∷ ts) = unary_by k t.kind t.line ts

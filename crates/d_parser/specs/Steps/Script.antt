@@ -17,12 +17,12 @@ unfoldable pub after_colon : List ℕ → Option (List ℕ)
 after_colon [] = None
 after_colon (b ∷ bytes) = if b == colon then Some bytes else after_colon bytes
 
--- one field before others, where there are such
+-- one field before others, if there are such
 abbrev pub with_first : List ℕ → Option (List (List ℕ)) → Option (List (List ℕ))
 with_first field None = None
 with_first field (Some others) = Some (field ∷ others)
 
--- the fields between colons, where there are no more than that
+-- the fields between colons, if there are no more than that
 abbrev pub fields : ℕ → Option (List ℕ) → Option (List (List ℕ))
 fields n None = Some []
 fields zero (Some bytes) = None

@@ -1,8 +1,8 @@
 -- The typed tree of an aggregation statement, or its first fault, as the code finds it.
 use Rattle.std.specs.Prelude.{ℕ, nat_le, ◌==◌, ◌&&◌, Bool, true, false, if◌then◌else◌, List, []}
 use Rattle.std.specs.Prelude.{◌∷◌, ◌++◌, length, Option, Some, None, Result, Ok, ℤ, pos, neg_ℤ}
-use Rattle.d_types.specs.Vocabulary.{int_eq, UnaryOperator, Tree, Trees, AggFn, MOST_KEYS}
-use Rattle.d_types.specs.Vocabulary.{MOST_STEP}
+use Rattle.d_types.specs.Vocabulary.{int_eq, UnaryOperator, Tree, Trees, AggFn, MAX_KEYS}
+use Rattle.d_types.specs.Vocabulary.{MAX_STEP}
 use Rattle.d_types.specs.Steps.Faults.{Fault, ◌>>=◌, refuse, unless, Undeclared, Mismatch, Keys}
 use Rattle.d_types.specs.Steps.Faults.{AggregationRedefined, LquantizeBounds}
 use Rattle.d_types.specs.Typed.{Typeds, end, Action, Aggregate, Agg, Aggs}
@@ -31,7 +31,7 @@ bound t = positive (natural t)
 
 abbrev pub small : Option ℕ → Option ℕ
 small None = None
-small (Some v) = if nat_le v MOST_STEP then Some v else None
+small (Some v) = if nat_le v MAX_STEP then Some v else None
 
 abbrev pub lquantize_by_bounds : Trees → Option AggFn
 lquantize_by_bounds (Trees.more e (Trees.more lower (Trees.more upper Trees.end))) =
@@ -67,7 +67,7 @@ new_aggregation name keys aggs f =
 abbrev pub place_for : ℕ → List ℕ → Typeds → Option AggFn → Aggs → Option (ℕ × Agg)
     → Result (ℕ × Aggs) Fault
 place_for line name keys f aggs None =
-    if nat_le (count keys) MOST_KEYS
+    if nat_le (count keys) MAX_KEYS
     then (unless LquantizeBounds line f >>= new_aggregation name keys aggs)
     else refuse Keys line
 place_for line name keys f aggs (Some p) =

@@ -2,7 +2,7 @@
 use Rattle.std.specs.Prelude.{◌≡◌, ℕ, List, Option, Some, None, Result, Ok, Err}
 use Rattle.d_types.specs.Vocabulary.{TypeFault}
 
--- why a construct is refused; where several causes hold, the first of them is reported
+-- why a construct is refused; if several causes hold, the first of them is reported
 pub data Cause : Type 0 where
   GlobalAssignment : (name : List ℕ) → Cause
   Undeclared : Cause

@@ -2,7 +2,7 @@
 use Rattle.std.specs.Prelude.{ℕ, ◌+◌, ◌*◌, ◌-◌, ◌==◌, ◌||◌, nat_le, Bool, true, false}
 use Rattle.std.specs.Prelude.{if◌then◌else◌, List, [], ◌∷◌, ◌++◌, Option, Some, None}
 use Rattle.d_parser.specs.Script.{is_ascii_digit}
-use Rattle.d_types.specs.Vocabulary.{Letter, Piece, MOST_WIDTH, Flags, Place}
+use Rattle.d_types.specs.Vocabulary.{Letter, Piece, MAX_WIDTH, Flags, Place}
 
 -- what a byte does: where the next byte is, and the piece that it ends, if any
 abbrev pub Turn : Type 0
@@ -43,7 +43,7 @@ at_length f b =
 abbrev pub at_width : Flags → ℕ → Turn
 at_width f b =
     if is_ascii_digit b
-    then (if nat_le (f.width * 10 + (b - 48)) MOST_WIDTH
+    then (if nat_le (f.width * 10 + (b - 48)) MAX_WIDTH
     then goes (Place.Width (record f { width = f.width * 10 + (b - 48) }))
     else None)
     else at_length f b

@@ -2,7 +2,7 @@
 use Rattle.std.specs.Prelude.{ℕ, nat_le, if◌then◌else◌, List, [], ◌∷◌, ◌++◌, length, Option, Some}
 use Rattle.std.specs.Prelude.{None, Result, Ok}
 use Rattle.d_types.specs.Vocabulary.{Int, Text, DeclaredType, DeclarationTree, StmtTree, ItemTree}
-use Rattle.d_types.specs.Vocabulary.{Tree, ClauseTree, DType, REGISTERS, MOST_KEYS, Space}
+use Rattle.d_types.specs.Vocabulary.{Tree, ClauseTree, DType, MAX_NEED, MAX_KEYS, Space}
 use Rattle.d_types.specs.Steps.Faults.{Fault, ◌>>=◌, refuse, Mismatch, Keys, NoRegister}
 use Rattle.d_types.specs.Typed.{Typed, type_of, Action, Aggs, ClauseMeant, ScriptMeant}
 use Rattle.d_types.specs.Variables.{Rows, find}
@@ -18,7 +18,7 @@ use Rattle.d_types.specs.Steps.Typing.{expr}
 abbrev pub declare : Space → ℕ → List ℕ → DeclaredType → List DeclaredType → Rows → Option ℕ
     → Result Rows Fault
 declare space line name t keys rows None =
-    if nat_le (length keys) MOST_KEYS
+    if nat_le (length keys) MAX_KEYS
     then Ok (rows ++ record {
       space = space;
       word = name;
@@ -38,7 +38,7 @@ declaration rows (DeclarationTree.OfClause line t name) =
 abbrev pub test_of : DType → Tree → Typed → Rows → Result (Option Typed × Rows) Fault
 test_of Text t x rows = refuse Mismatch (line_of t)
 test_of (Int u) t x rows =
-    if nat_le (need x) REGISTERS then Ok (Some x, rows) else refuse NoRegister (line_of t)
+    if nat_le (need x) MAX_NEED then Ok (Some x, rows) else refuse NoRegister (line_of t)
 
 abbrev pub predicate : Rows → Option Tree → Result (Option Typed × Rows) Fault
 predicate rows None = Ok (None, rows)

@@ -70,7 +70,7 @@ store_node space slot t keys rows None = None
 store_node space slot t keys rows (Some x) =
     Some (Typed.Assign (record { space = space; slot = slot; holds = t }) keys x, rows)
 
--- `=` gives the type of its right side where there is none yet
+-- `=` gives the type of its right side if there is none yet
 abbrev pub store : Space → Option DType → ℕ → Typeds → Typed → Rows → Option (Typed × Rows)
 store space None slot keys x rows =
     store_node space slot (type_of x) keys (set_type slot (type_of x) rows) (Some x)

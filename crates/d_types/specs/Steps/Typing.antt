@@ -1,7 +1,7 @@
 -- The typed tree of an expression, or its first fault, as the code finds it.
 use Rattle.std.specs.Prelude.{ℕ, nat_le, if◌then◌else◌, Option, Some, None, Result, Ok}
 use Rattle.d_parser.specs.declared.tree.Variable.{Variable}
-use Rattle.d_types.specs.Vocabulary.{Int, Text, Step, Tree, Trees, DType, INT64, Answer, REGISTERS}
+use Rattle.d_types.specs.Vocabulary.{Int, Text, Step, Tree, Trees, DType, INT64, Answer, MAX_NEED}
 use Rattle.d_types.specs.Vocabulary.{Callee, AssignOperator}
 use Rattle.d_types.specs.Steps.Faults.{Fault, ◌>>=◌, refuse, unless, Undeclared, Mismatch}
 use Rattle.d_types.specs.Steps.Faults.{NoRegister}
@@ -101,7 +101,7 @@ abbrev mutual
 -- an expression that isn't part of another, and that fits the registers
 abbrev pub whole : Rows → Tree → Result (Typed × Rows) Fault
 whole rows t =
-    expr rows t >>= λ x. if nat_le (need x.0) REGISTERS then Ok x else refuse NoRegister (line_of t)
+    expr rows t >>= λ x. if nat_le (need x.0) MAX_NEED then Ok x else refuse NoRegister (line_of t)
 
 abbrev pub assign_rest : Rows → AssignOperator → Variable → Typeds → Tree
     → Result (Typed × Rows) Fault

@@ -89,7 +89,7 @@ operate_on (Operation.Arithmetic o t) a b =
 operate_on (Operation.Shift o t) a b =
     both (masking t b) (both (one_instr (Alu (shift_operator o t.signed) a b a)) (narrowing t a))
 
--- 1 where one of two registers is 0 and the other isn't, into the first
+-- 1 if one of two registers is 0 and the other isn't, into the first
 abbrev pub differing : Reg → Reg → Maker
 differing a b = choice_code (Tst a) Equal (bit_by (Tst b) Equal a) (bit_by (Tst b) NotEqual a)
 

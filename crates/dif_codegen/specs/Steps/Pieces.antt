@@ -58,7 +58,7 @@ both g h pl = after_piece (g pl) h pl
 abbrev pub next : Place → Place
 next pl = record { at = pl.at + 1; texts = pl.texts; numbers = pl.numbers }
 
--- the second where the branch is taken, else the first and a jump past the second
+-- the second if the branch is taken, else the first and a jump past the second
 abbrev pub fork_piece : Condition → Place → Piece → Piece → Piece
 fork_piece condition pl p q = record {
   code =
@@ -78,6 +78,6 @@ fork condition g h pl = fork_after condition (g (next pl)) h pl
 abbrev pub choice_code : Instr → Condition → Maker → Maker → Maker
 choice_code test condition g h = both (one_instr test) (fork condition g h)
 
--- 1 where the branch is taken, and else 0
+-- 1 if the branch is taken, and else 0
 abbrev pub bit_by : Instr → Condition → Reg → Maker
 bit_by test condition d = choice_code test condition (number 0 d) (number 1 d)

@@ -29,7 +29,7 @@ ExecutesOver i difo f frame vars result next after =
     Stepped vars (act i (object_of difo) f (frame_of (object_of difo) f frame) vars)
     result (frame_of (object_of difo) f next) after
 
--- ---- where the call gets not all variables, it does so with any others, and leaves those
+-- ---- if the call gets not all variables, it does so with any others, and leaves those
 
 abbrev pub Executes : Instr → Difo → Firing → FrameInMemory
     → Result (Option Reg) MachineFault → FrameInMemory → Type 0

@@ -5,8 +5,8 @@ use Rattle.dif_machine.specs.Vocabulary.{Variables}
 use Rattle.dif_machine.specs.Frames.{Frame}
 use Rattle.dif_machine.specs.Semantics.{Next, Goes, Ends, Faults}
 
--- what a call that makes a step from these variables returns and leaves; where the step ends the
--- run, the value is in a register; where memory ran out, no variable has changed
+-- what a call that makes a step from these variables returns and leaves; if the step ends the
+-- run, the value is in a register; if memory ran out, no variable has changed
 abbrev pub Stepped : Variables → Next → Result (Option Reg) MachineFault → Frame → Variables
     → Type 0
 Stepped vars next (Ok None) s after = next ≡ Goes s after

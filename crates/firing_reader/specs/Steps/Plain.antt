@@ -4,7 +4,7 @@ use Rattle.std.specs.Prelude.{ℤ, ◌+◌, ◌^◌, drop, length}
 use Rattle.csv.specs.declared.parser.State.{State}
 use Rattle.firing_reader.specs.Vocabulary.{next_record, default_config}
 use Rattle.firings.specs.declared.firing.Firing.{Firing}
-use Rattle.firings.specs.declared.trace.TheConstants.{MOST_ROWS}
+use Rattle.firings.specs.declared.limits.TheConstants.{MAX_ROWS}
 use Rattle.firing_reader.specs.{Left.left_in, Pieces.Rises}
 use Rattle.firings.specs.Firings.{last_number}
 use Rattle.firing_reader.specs.Plain.{IsEnd, Passes, ReadsRows, rows_after, state_after}
@@ -66,7 +66,7 @@ pub record ReadsArguments (bytes rest : List ℕ) (args : List ℤ) : Type 0 whe
 -- a trace may have these firings after those
 pub record GoesAfter (first second : List Firing) : Type 0 where
   pub rises : Rises (last_number first) second (last_number (first ++ second))
-  pub few : length first + length second ≤ MOST_ROWS
+  pub few : length first + length second ≤ MAX_ROWS
 
 -- the bytes hold the rows of these firings and of no others, whose numbers go on rising
 pub record ReadsMore (bytes : List ℕ) (old new : List Firing) (rest : List ℕ) : Type 0 where
@@ -92,7 +92,7 @@ left_after count bytes = 10 ∷ drop (count + 1) bytes
 pub record PassesRows (old : List Firing) (bytes : List ℕ) (new : List Firing) (count : ℕ)
     : Type 0 where
   pub read : GoesOn old bytes new (left_after count bytes)
-  pub few : length new ≤ MOST_ROWS
+  pub few : length new ≤ MAX_ROWS
   pub inside : count < length bytes
 
 -- the rest is the end of a row, and then the last of the bytes, after at least one of them

@@ -12,7 +12,7 @@ ghost use Rattle.firing_reader.specs.Steps.Plain.{BeginsWith, Closes};
 use super::front::{after_comma, after_minus, begins_at_end, front, rest_after, word_front};
 use crate::columns::negative;
 use core::dec2flt::read_digits;
-use firings::{TEXT_LIMIT, Text};
+use firings::{MAX_TEXT, Text};
 
 // A number of this many digits fits in 64 bits. Csv reads one of more.
 const SHORT: usize = 19;
@@ -90,7 +90,7 @@ fn word(bytes: &[u8]) -> Option<(Text, &[u8])>
         × BeginsWith bytes.now field (44 ∷ p.1.now) × (text_of field ≡ Some p.0)) }
 {
     let count = word_front(bytes);
-    if count > TEXT_LIMIT {
+    if count > MAX_TEXT {
         return None;
     }
     let rest = after_comma(rest_after(bytes, count))?;

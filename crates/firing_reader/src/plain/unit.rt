@@ -11,7 +11,7 @@ fn without_lowest(marks: u64) -> u64 {
     marks & marks.wrapping_sub(1)
 }
 
-/// How many bytes there are up to and including the third comma; 0 where there are fewer commas.
+/// How many bytes there are up to and including the third comma; 0 if there are fewer commas.
 #[inline(always)]
 pub(crate) fn end_of_three(bytes: &[u8]) -> usize
     ensures { result ≤ length bytes.now }
@@ -29,7 +29,7 @@ pub(crate) fn end_of_three(bytes: &[u8]) -> usize
     end_after(bytes, 3)
 }
 
-/// How many bytes there are up to and including the fourth comma; 0 where there are fewer commas.
+/// How many bytes there are up to and including the fourth comma; 0 if there are fewer commas.
 #[inline(always)]
 pub(crate) fn end_of_four(bytes: &[u8]) -> usize
     ensures { result ≤ length bytes.now }

@@ -13,7 +13,7 @@ abbrev pub side_word : Side → List ℕ
 side_word Entry = codes "entry"
 side_word Return = codes "return"
 
--- an argument's field, which is empty where there is none
+-- an argument's field, which is empty if there is none
 abbrev pub argument_text : Option ℤ → List ℕ
 argument_text None = []
 argument_text (Some z) = signed_decimal z

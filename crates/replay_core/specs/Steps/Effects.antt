@@ -10,7 +10,7 @@ use Rattle.replay_core.specs.declared.{lanes.state.State.State}
 use Rattle.replay_core.specs.{Evaluation.Stays, Evaluation.variables_in, Pieces.PieceSeen}
 use Rattle.replay_core.specs.{Lanes.Notes, Seen.piece_seen}
 
--- what effects make, where no fault comes after them
+-- what effects make, if no fault comes after them
 abbrev pub effects_result : List Effect → Variables → Made
 effects_result effects vars = record {
   texts = texts_in effects;

@@ -56,7 +56,7 @@ fn place_piece(
     Ok(())
 }
 
-/// The pieces, where no place is empty.
+/// The pieces, if no place is empty.
 pub(crate) fn pieces_in_order(
     alloc: Global,
     places: Vec<Option<Piece>>,

@@ -46,7 +46,7 @@ pub(crate) fn converted(from: IntType, to: IntType, x: Value) -> Value
     Value::Int(convert(word_in(&x), from, to))
 }
 
-// The operator's word, refused where it divides by 0.
+// The operator's word, refused if it divides by 0.
 fn operation_word(op: Operation, a: u64, b: u64) -> Result<u64, OutOfZero>
     ensures { result ≡ spec.operation_of op a b }
 {
@@ -75,7 +75,7 @@ pub(crate) fn updated(op: Operation, old: Value, y: Value) -> Result<u64, OutOfZ
     operation_word(op, word_for_operation(op, word_in(&old)), word_in(&y))
 }
 
-/// 1 where the comparison of two integers holds, else 0.
+/// 1 if the comparison of two integers holds, else 0.
 pub(crate) fn compare_words(op: ComparisonOperator, t: IntType, x: Value, y: Value) -> Value
     ensures { result
         ≡ Value.Int (spec.truth (holds_of op (order_of t (word_of x) (word_of y)))) }
@@ -83,21 +83,21 @@ pub(crate) fn compare_words(op: ComparisonOperator, t: IntType, x: Value, y: Val
     truth(op.holds(compare(t, word_in(&x), word_in(&y))))
 }
 
-/// 1 where the comparison of two texts holds, else 0.
+/// 1 if the comparison of two texts holds, else 0.
 pub(crate) fn compare_texts(op: ComparisonOperator, x: Value, y: Value) -> Value
     ensures { result ≡ Value.Int (spec.truth (holds_of op (text_cmp (bytes_of x) (bytes_of y)))) }
 {
     truth(op.holds(compare_text(bytes_in(&x), bytes_in(&y))))
 }
 
-/// 1 where it isn't 0, else 0.
+/// 1 if it isn't 0, else 0.
 pub(crate) fn bit(y: Value) -> Value
     ensures { result ≡ Value.Int (spec.bit (word_of y)) }
 {
     truth(word_in(&y) != 0)
 }
 
-/// 1 where just one of the two isn't 0, else 0.
+/// 1 if just one of the two isn't 0, else 0.
 pub(crate) fn exclusive_or(x: Value, y: Value) -> Value
     ensures { result ≡ Value.Int
         (spec.at_zero (word_of x) (spec.bit (word_of y)) (spec.inverse (word_of y))) }

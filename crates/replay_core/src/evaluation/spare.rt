@@ -7,7 +7,7 @@ use dif_machine::{Frame, key_of_zeros};
 use std::alloc::{AllocError, Global};
 
 // How many keys are kept.
-const MOST_KEYS: usize = 8;
+const MAX_SPARE: usize = 8;
 
 /// Keys that were used, whose room the next key of as many parts takes, and the machine's frame for
 /// all runs.
@@ -46,7 +46,7 @@ impl Spare {
 
     /// Keeps a key, unless there are enough or memory is refused.
     pub fn keep(&mut self, key: Key) {
-        if !key.parts().is_empty() && self.keys.len() < MOST_KEYS {
+        if !key.parts().is_empty() && self.keys.len() < MAX_SPARE {
             let _ = self.keys.push(key);
         }
     }

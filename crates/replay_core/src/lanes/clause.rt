@@ -19,7 +19,7 @@ use std::alloc::AllocError;
 
 /// A clause in the form in which an engine runs it.
 pub trait Clause {
-    /// What it means where variables have the types of these slots.
+    /// What it means if variables have the types of these slots.
     ghost means: { Self → Slots → ClauseMeant → Type 0 };
 
     /// How many contributions a run makes at most.

@@ -13,7 +13,7 @@ use crate::lanes::clause::Clause;
 use crate::lanes::piece::Piece;
 use crate::lanes::state::State;
 use crate::selection::clause_places::{ClausePlaces, Repeat};
-use d_lexer::MOST_BYTES;
+use d_lexer::MAX_BYTES;
 use std::alloc::AllocError;
 use std::marker::Model;
 
@@ -74,8 +74,8 @@ pub(crate) fn run_clauses<C: Clause>(
 ) -> Result<bool, AllocError>
     requires there { All (λ place. place < length clauses.now) places.now }
     requires named { All (λ c. C.places c ≤ length (functions_of piece.old.table)) clauses.now }
-    requires few { All (λ c. C.most c ≤ MOST_BYTES) clauses.now }
-    requires room { count_held piece.old.table + MOST_BYTES * length places.now ≤ 2 ^ 52 }
+    requires few { All (λ c. C.most c ≤ MAX_BYTES) clauses.now }
+    requires room { count_held piece.old.table + MAX_BYTES * length places.now ≤ 2 ^ 52 }
     requires taken { HasTaken state.old piece.old }
     ensures functions { functions_of piece.new.table ≡ functions_of piece.old.table }
     ensures taken { piece.new.taken.items ≡ piece.old.taken.items }
@@ -92,7 +92,7 @@ pub(crate) fn run_clauses<C: Clause>(
         let made = all_made state.old.firing.now cs places.now (variables_in state.old) in
         exits ≡ is_some made.exit) }
     ensures held { OnOk result (count_held piece.new.table
-        ≤ count_held piece.old.table + MOST_BYTES * length places.now) }
+        ≤ count_held piece.old.table + MAX_BYTES * length places.now) }
 {
     let count = clauses.len();
     let mut exits = false;

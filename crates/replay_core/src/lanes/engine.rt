@@ -10,7 +10,7 @@ use std::alloc::AllocError;
 
 /// Runs firings for a script, in the order in which it is given them.
 pub trait Engine {
-    ghost use Rattle.replay_core.specs.Vocabulary.{HasRanges, MOST_BYTES, ScriptMeant};
+    ghost use Rattle.replay_core.specs.Vocabulary.{HasRanges, MAX_BYTES, ScriptMeant};
     ghost use Rattle.replay_core.specs.{Selecting.selected_for, Sizes.most_firings};
     ghost use Rattle.replay_core.specs.Lanes.{Fires, LaneSeen};
     ghost use Rattle.replay_core.specs.Meaning.{exit_of, history};
@@ -47,7 +47,7 @@ pub trait Engine {
         requires ranges { HasRanges firing.now }
         requires selected { (m : ScriptMeant) × runs self.old m
             × (places.now ≡ selected_for m firing.now) }
-        requires places { length places.now ≤ MOST_BYTES }
+        requires places { length places.now ≤ MAX_BYTES }
         requires few { length (seen self.old).piece.taken < most_firings }
         ensures step { (m : ScriptMeant) → runs self.old m
             → places.now ≡ selected_for m firing.now

@@ -2,7 +2,7 @@
 
 ghost use Rattle.std.specs.Prelude.{◌≡◌, ◌<◌, ◌≤◌, ◌∷◌, [], List, All, IfOk, OnOk, false, true};
 ghost use Rattle.std.specs.Prelude.{is_some, length, sum_by};
-ghost use Rattle.replay_core.specs.Vocabulary.{HasRanges, MOST_BYTES, ScriptMeant, functions_in};
+ghost use Rattle.replay_core.specs.Vocabulary.{HasRanges, MAX_BYTES, ScriptMeant, functions_in};
 ghost use Rattle.replay_core.specs.Vocabulary.{functions_of, slots_of};
 ghost use Rattle.replay_core.specs.{Selecting.selected_for, Sizes.most_firings, Threads.threads_in};
 ghost use Rattle.replay_core.specs.Lanes.{Fires, IsFresh};
@@ -35,8 +35,8 @@ pub struct Lane<'a, C: Clause> {
     // Memory was refused to a firing.
     spent: bool,
     ghost named: { All (λ c. C.places c ≤ length (functions_of piece.table)) clauses.now },
-    ghost few: { All (λ c. C.most c ≤ MOST_BYTES) clauses.now },
-    ghost probes: { sum_by C.probes clauses.now ≤ MOST_BYTES },
+    ghost few: { All (λ c. C.most c ≤ MAX_BYTES) clauses.now },
+    ghost probes: { sum_by C.probes clauses.now ≤ MAX_BYTES },
     ghost room: { spent ≡ false → IsRoomy piece },
 }
 
@@ -54,8 +54,8 @@ impl<'a, C: Clause> Lane<'a, C> {
         functions: Vec<AggFn>,
     ) -> Result<Lane<'a, C>, AllocError>
         requires named { All (λ c. C.places c ≤ length functions.items) clauses.now }
-        requires few { All (λ c. C.most c ≤ MOST_BYTES) clauses.now }
-        requires probes { sum_by C.probes clauses.now ≤ MOST_BYTES }
+        requires few { All (λ c. C.most c ≤ MAX_BYTES) clauses.now }
+        requires probes { sum_by C.probes clauses.now ≤ MAX_BYTES }
         ensures script { IfOk result (λ l. (m : ScriptMeant)
             → AllMean C.means (slots_of m) clauses.now m.clauses → functions.items ≡ functions_in m
             → ⟦<Lane<'a, C> as Engine>⟧.runs l m) }
@@ -83,7 +83,7 @@ impl<'a, C: Clause> Lane<'a, C> {
         requires selected { (m : ScriptMeant)
             × RunsAs C.means self.old.clauses.now (functions_of self.old.piece.table) m
             × (places.now ≡ selected_for m firing.now) }
-        requires places { length places.now ≤ MOST_BYTES }
+        requires places { length places.now ≤ MAX_BYTES }
         requires few { length self.old.piece.taken.items < most_firings }
         requires room { IsRoomy self.old.piece }
         requires spent { self.old.spent ≡ true }

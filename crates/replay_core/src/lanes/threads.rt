@@ -19,7 +19,7 @@ use crate::lanes::piece::Piece;
 use crate::lanes::state::State;
 use crate::lanes::tables::Tables;
 use crate::selection::clause_places::ClausePlaces;
-use d_lexer::MOST_BYTES;
+use d_lexer::MAX_BYTES;
 use firings::Firing;
 use indexmap::IndexMap;
 use keyed_hash::{DirectMapped, HashKey};
@@ -51,8 +51,8 @@ pub(crate) fn run_on_thread<C: Clause>(
     requires there { All (λ place. place < length due.now.clauses.now) due.now.places.now }
     requires named { All (λ c.
         C.places c ≤ length (functions_of piece.old.table)) due.now.clauses.now }
-    requires few { All (λ c. C.most c ≤ MOST_BYTES) due.now.clauses.now }
-    requires room { count_held piece.old.table + MOST_BYTES * length due.now.places.now ≤ 2 ^ 52 }
+    requires few { All (λ c. C.most c ≤ MAX_BYTES) due.now.clauses.now }
+    requires room { count_held piece.old.table + MAX_BYTES * length due.now.places.now ≤ 2 ^ 52 }
     requires taken { Contains piece.old.taken.items due.now.firing.now.number }
     ensures functions { functions_of piece.new.table ≡ functions_of piece.old.table }
     ensures taken { piece.new.taken.items ≡ piece.old.taken.items }
@@ -64,7 +64,7 @@ pub(crate) fn run_on_thread<C: Clause>(
         (threads_in threads.old.entries) (threads_in threads.new.entries) piece.old piece.new
         exits) }
     ensures held { OnOk result (count_held piece.new.table
-        ≤ count_held piece.old.table + MOST_BYTES * length due.now.places.now) }
+        ≤ count_held piece.old.table + MAX_BYTES * length due.now.places.now) }
 {
     if due.places.is_empty() {
         return Ok(false);
@@ -87,8 +87,8 @@ fn run_on_tables<C: Clause>(
     requires there { All (λ place. place < length due.now.clauses.now) due.now.places.now }
     requires named { All (λ c.
         C.places c ≤ length (functions_of piece.old.table)) due.now.clauses.now }
-    requires few { All (λ c. C.most c ≤ MOST_BYTES) due.now.clauses.now }
-    requires room { count_held piece.old.table + MOST_BYTES * length due.now.places.now ≤ 2 ^ 52 }
+    requires few { All (λ c. C.most c ≤ MAX_BYTES) due.now.clauses.now }
+    requires room { count_held piece.old.table + MAX_BYTES * length due.now.places.now ≤ 2 ^ 52 }
     requires taken { Contains piece.old.taken.items due.now.firing.now.number }
     ensures functions { functions_of piece.new.table ≡ functions_of piece.old.table }
     ensures taken { piece.new.taken.items ≡ piece.old.taken.items }
@@ -104,7 +104,7 @@ fn run_on_tables<C: Clause>(
         let made = all_made due.now.firing.now cs due.now.places.now (variables_of tables.old) in
         exits ≡ is_some made.exit) }
     ensures held { OnOk result (count_held piece.new.table
-        ≤ count_held piece.old.table + MOST_BYTES * length due.now.places.now) }
+        ≤ count_held piece.old.table + MAX_BYTES * length due.now.places.now) }
 {
     let alloc = *piece.taken.allocator();
     let mut state = State {

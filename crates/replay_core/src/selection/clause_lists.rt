@@ -41,7 +41,7 @@ impl ClauseLists {
         }
     }
 
-    /// The list at a place; an empty one where there is none.
+    /// The list at a place; an empty one if there is none.
     pub(crate) fn at(&self, place: usize) -> &ClausePlaces
         ensures { result.now ≡ list_at self.now place }
     {

@@ -49,7 +49,7 @@ fn run_statements<X: Expression, S: Statement<X>>(
     Ok(exits)
 }
 
-/// Runs a clause for a firing that its description matches: the predicate, and the statements where
+/// Runs a clause for a firing that its description matches: the predicate, and the statements if
 /// that isn't 0 (Dynamic Tracing Guide, "Predicates"). Returns whether it exits. The place is that
 /// among the script's clauses, from 1.
 pub(crate) fn run_clause<X: Expression, S: Statement<X>>(

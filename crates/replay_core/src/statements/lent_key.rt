@@ -7,7 +7,7 @@ use d_values::ValueRef;
 use std::marker::Model;
 
 /// The most values.
-const MOST: usize = 4;
+const MAX_VALUES: usize = 4;
 
 /// The values of a key, lent by a firing and by a script. Contracts see the key that they make.
 #[derive(Drop)]
@@ -33,7 +33,7 @@ impl<'a> LentKey<'a> {
         ensures { result ≡ [] }
     {
         LentKey {
-            values: [ValueRef::Int(0); MOST],
+            values: [ValueRef::Int(0); MAX_VALUES],
             len: 0,
         }
     }
@@ -49,7 +49,7 @@ impl<'a> LentKey<'a> {
     pub(crate) fn push(&mut self, value: ValueRef<'a>) -> bool
         ensures { IsTrue result → self.new ≡ self.old ++ part_of_lent value.entry ∷ [] }
     {
-        if self.len == MOST {
+        if self.len == MAX_VALUES {
             return false;
         }
         self.values[self.len] = value;

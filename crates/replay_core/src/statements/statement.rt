@@ -15,7 +15,7 @@ use crate::statements::lent_key::LentKey;
 use crate::statements::printing::{printf_text, trace_line};
 use d_types::Piece as Part;
 
-// What an aggregating function is given; 0 where it takes nothing.
+// What an aggregating function is given; 0 if it takes nothing.
 fn evaluate_argument<X: Expression>(
     argument: &Option<X>,
     state: &mut State<'_>,

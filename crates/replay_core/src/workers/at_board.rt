@@ -171,7 +171,7 @@ fn at_board<R: Wait, L: Lanes, G: Gate>(
     }
 }
 
-/// All pieces and all seats, where every worker came to its end.
+/// All pieces and all seats, if every worker came to its end.
 pub(crate) fn pieces_and_seats(
     alloc: Global,
     results: Vec<Worked>,

@@ -12,7 +12,7 @@ use crate::workers::at_board::{in_threads, pieces_and_seats};
 use crate::workers::gate::Gate;
 use crate::workers::span::Span;
 use crate::workers::worker::WorkerInput;
-use shard_queue::{ClaimBoard, Closed, MOST_GROUPS, MOST_WORKERS};
+use shard_queue::{ClaimBoard, Closed, MAX_GROUPS, MAX_WORKERS};
 use std::alloc::AllocError;
 use std::sync::Wait;
 use std::thread::Threads;
@@ -36,8 +36,8 @@ pub(crate) fn in_round<R: Threads + Wait + Sync, L: Lanes + Sync, G: Gate + Sync
     requires ready { IsReady (L.runs input.now.lanes.now) input.now.groups.now input.now.trace.now }
     requires selected { AreSelected
         (L.runs input.now.lanes.now) input.now.trace.now input.now.selections.now }
-    requires few { (grouping input.now.groups.now).count ≤ MOST_GROUPS + 1 }
-    requires workers { (0 < workers) × (workers ≤ MOST_WORKERS) }
+    requires few { (grouping input.now.groups.now).count ≤ MAX_GROUPS + 1 }
+    requires workers { (0 < workers) × (workers ≤ MAX_WORKERS) }
     ensures lists { IfOk result (λ r. vec_len r.lists ≡ workers) }
     ensures round { IfOk result (IsRound
         (Gives span (L.runs input.now.lanes.now) input.now.groups.now input.now.trace.now)

@@ -2,7 +2,7 @@
 
 ghost use Rattle.std.specs.Prelude.{◌≡◌, ◌<◌, ◌≤◌, true, false, [], map, min, length, All, IfOk};
 ghost use Rattle.std.specs.Prelude.{OnOk, IsFalse};
-ghost use Rattle.replay_core.specs.Vocabulary.{AreOf, MOST_BYTES, ScriptMeant, grouping, no_number};
+ghost use Rattle.replay_core.specs.Vocabulary.{AreOf, MAX_BYTES, ScriptMeant, grouping, no_number};
 ghost use Rattle.replay_core.specs.Vocabulary.{run_threads, with_ends};
 ghost use Rattle.replay_core.specs.{Running.IsLaneOf, Seen.IsRoomy};
 ghost use Rattle.replay_core.specs.Steps.{Adding.IsAdded, Working.firings_at};
@@ -25,7 +25,7 @@ use std::sync::Wait;
 
 /// Takes groups until it is at the end, and makes a piece of a beginning of each. A beginning ends
 /// after a firing that exits, and before one whose number is above the least that a worker found to
-/// exit. Err where memory was refused.
+/// exit. Err if memory was refused.
 ///
 /// ```text
 /// let worked = work_until(&rt, alloc, &board, seat, &lanes, &trace, &groups, &OpenGate);
@@ -176,7 +176,7 @@ fn run_until<S: Exits, E: Engine, L, G>(
         × AreFor input.now.trace.now input.now.selections.now m }
     requires fresh { (m : ScriptMeant) → E.runs lane.old m → IsLaneOf m [] (E.seen lane.old) }
     requires unspent { IsFalse (E.is_spent lane.old) }
-    requires short { All (λ clauses. length clauses ≤ MOST_BYTES) input.now.selections.now }
+    requires short { All (λ clauses. length clauses ≤ MAX_BYTES) input.now.selections.now }
     requires places { All (λ place. place
         < length (with_ends input.now.trace.now input.now.trace.now)) places.now }
     requires few { length places.now

@@ -2,8 +2,8 @@
 
 ghost use Rattle.std.specs.Prelude.{◌≡◌, ◌+◌, ◌<◌, ◌≤◌, ◌∷◌, ◌++◌, true, [], List, map, filter};
 ghost use Rattle.std.specs.Prelude.{All, IfOk, IfSome, OnOk, IsFalse, is_some, length};
-ghost use Rattle.replay_core.specs.Vocabulary.{AreOf, Firing, HasRanges, MOST_BYTES, ScriptMeant};
-ghost use Rattle.replay_core.specs.Vocabulary.{MOST_TOGETHER, grouping, run_threads, with_ends};
+ghost use Rattle.replay_core.specs.Vocabulary.{AreOf, Firing, HasRanges, MAX_BYTES, ScriptMeant};
+ghost use Rattle.replay_core.specs.Vocabulary.{MAX_TOGETHER, grouping, run_threads, with_ends};
 ghost use Rattle.replay_core.specs.{Running.IsLaneOf, Seen.IsRoomy, Sizes.most_firings};
 ghost use Rattle.replay_core.specs.{Lanes.Fires, Meaning.exit_of, Meaning.history};
 ghost use Rattle.replay_core.specs.Selecting.{AreFor, AreSelected, selected_for};
@@ -20,7 +20,7 @@ use crate::selection::clause_places::ClausePlaces;
 use crate::workers::gate::Gate;
 use crate::workers::source::Source;
 use crate::workers::span::Span;
-use firings::{Firing, MOST_TOGETHER, Trace};
+use firings::{Firing, MAX_TOGETHER, Trace};
 use shard_queue::Groups;
 use std::alloc::{AllocError, Global};
 use std::sync::Wait;
@@ -38,7 +38,7 @@ pub(crate) struct WorkerInput<'a, L, G> {
 }
 
 /// Takes groups until it is at the end, and makes a piece of each: what the script makes of
-/// BEGIN, the rows and END on the group's threads. Err where memory was refused.
+/// BEGIN, the rows and END on the group's threads. Err if memory was refused.
 ///
 /// ```text
 /// let (board, seats) = ClaimBoard::open(alloc, groups.len() as u32, 1)?;
@@ -170,7 +170,7 @@ impl<'a, L: Lanes, G> WorkerInput<'a, L, G> {
             × AreFor self.now.trace.now self.now.selections.now m }
         requires fresh { (m : ScriptMeant) → E.runs lane m → IsLaneOf m [] (E.seen lane) }
         requires unspent { IsFalse (E.is_spent lane) }
-        requires short { All (λ clauses. length clauses ≤ MOST_BYTES) self.now.selections.now }
+        requires short { All (λ clauses. length clauses ≤ MAX_BYTES) self.now.selections.now }
         requires places { All (λ place. place
             < length (with_ends self.now.trace.now self.now.trace.now)) places.now }
         requires few { length places.now
@@ -183,7 +183,7 @@ impl<'a, L: Lanes, G> WorkerInput<'a, L, G> {
             → IsLaneOf m (filter (is_in span) (firings_at
             (with_ends self.now.trace.now self.now.trace.now) places.now)) (E.seen l)) }
     {
-        for block in places.chunks(MOST_TOGETHER) {
+        for block in places.chunks(MAX_TOGETHER) {
             let Ok(()) = self.run_block(&mut lane, block, span) else {
                 drop(lane);
                 return Err(AllocError);
@@ -203,10 +203,10 @@ impl<'a, L: Lanes, G> WorkerInput<'a, L, G> {
         requires script { (m : ScriptMeant) × E.runs lane.old m
             × AreFor self.now.trace.now self.now.selections.now m }
         requires unspent { IsFalse (E.is_spent lane.old) }
-        requires short { All (λ clauses. length clauses ≤ MOST_BYTES) self.now.selections.now }
+        requires short { All (λ clauses. length clauses ≤ MAX_BYTES) self.now.selections.now }
         requires places { All (λ place. place
             < length (with_ends self.now.trace.now self.now.trace.now)) places.now }
-        requires together { length places.now ≤ MOST_TOGETHER }
+        requires together { length places.now ≤ MAX_TOGETHER }
         requires few { length (E.seen lane.old).piece.taken + length places.now
             ≤ length (with_ends self.now.trace.now self.now.trace.now) }
         ensures script { OnOk result ((m : ScriptMeant) → E.runs lane.old m
@@ -238,7 +238,7 @@ fn run_one<E: Engine>(
     requires ranges { HasRanges firing.now }
     requires selected { (m : ScriptMeant) × E.runs lane.old m
         × IfSome clauses (λ c. c.now ≡ selected_for m firing.now) }
-    requires clauses { IfSome clauses (λ c. length c.now ≤ MOST_BYTES) }
+    requires clauses { IfSome clauses (λ c. length c.now ≤ MAX_BYTES) }
     requires few { length (E.seen lane.old).piece.taken < most_firings }
     requires unspent { IsFalse (E.is_spent lane.old) }
     ensures script { (m : ScriptMeant) → E.runs lane.old m
@@ -267,7 +267,7 @@ pub(crate) fn fire<E: Engine>(
     requires ranges { HasRanges firing.now }
     requires selected { (m : ScriptMeant) × E.runs lane.old m
         × IfSome clauses (λ c. c.now ≡ selected_for m firing.now) }
-    requires clauses { IfSome clauses (λ c. length c.now ≤ MOST_BYTES) }
+    requires clauses { IfSome clauses (λ c. length c.now ≤ MAX_BYTES) }
     requires few { length (E.seen lane.old).piece.taken < most_firings }
     ensures step { (m : ScriptMeant) → E.runs lane.old m
         → IfSome clauses.entry (λ c. c.now ≡ selected_for m firing.now)

@@ -10,7 +10,7 @@ returns c = λ _.
     let part = part_of_lent c.args.value in
     let few = c.self.invariant.0 in
     let long = c.self.invariant.1 in
-    let other = c.if-self-eq-MOST.false in
+    let other = c.if-self-eq-MAX_VALUES.false in
     let room : len < length values = omega (arith, long, few, other) in
     ap key_of (take_more_set values len c.args.value room)
     ∙ map-append part_of_lent (take len values) (c.args.value ∷ [])
