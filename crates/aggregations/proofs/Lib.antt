@@ -3,7 +3,7 @@ pub mod EntryLemmas
 pub mod HistogramLemmas
 pub mod MergeLemmas
 pub mod OrderLemmas
-pub mod PlaceLemmas
+pub mod IndexLemmas
 pub mod RangeLemmas
 pub mod RankLemmas
 pub mod SpanLemmas

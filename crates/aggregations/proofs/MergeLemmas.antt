@@ -93,12 +93,12 @@ merging_all first all now m key = m.done key refl
 
 -- ---- tables
 
--- `first` takes `all`, and is `now`, with the aggregations from `place` on still to come
-pub record MergingTables (first all : List Aggregation) (place : ℕ) (now : List Aggregation) : Type 0 where
+-- `first` takes `all`, and is `now`, with the aggregations from `index` on still to come
+pub record MergingTables (first all : List Aggregation) (index : ℕ) (now : List Aggregation) : Type 0 where
   pub functions : functions_of now ≡ functions_of first
-  pub done : (i : ℕ) (a b c : Aggregation) → i < place → slice_get first i ≡ Some a → slice_get all i ≡ Some b → slice_get now i ≡ Some c → TakesAll a b c
-  pub todo : (i : ℕ) → place ≤ i → slice_get now i ≡ slice_get first i
-  pub held : count_held now + count_held (drop place all) ≤ count_held first + count_held all
+  pub done : (i : ℕ) (a b c : Aggregation) → i < index → slice_get first i ≡ Some a → slice_get all i ≡ Some b → slice_get now i ≡ Some c → TakesAll a b c
+  pub todo : (i : ℕ) → index ≤ i → slice_get now i ≡ slice_get first i
+  pub held : count_held now + count_held (drop index all) ≤ count_held first + count_held all
 
 pub tables_start : (first all : List Aggregation) → MergingTables first all 0 first
 tables_start first all = record {
@@ -108,54 +108,54 @@ tables_start first all = record {
   held = omega arith;
 }
 
--- the aggregation at the place takes its own, or is refused memory for it
-pub tables_set : (first all now : List Aggregation) (place : ℕ) (old more new : Aggregation) → MergingTables first all place now
-    → place < length now → old ≡ get_or now place old → place < length all → more ≡ get_or all place more
+-- the aggregation at the index takes its own, or is refused memory for it
+pub tables_set : (first all now : List Aggregation) (index : ℕ) (old more new : Aggregation) → MergingTables first all index now
+    → index < length now → old ≡ get_or now index old → index < length all → more ≡ get_or all index more
     → new.function ≡ old.function → count_of new ≤ count_of old + count_of more
-    → (functions_of (set now place new) ≡ functions_of first)
-    × (count_held (set now place new) + count_held (drop (place + 1) all) ≤ count_held first + count_held all)
-tables_set first all now place old more new m within was within_all is kept count = (
-  map-set_same (λ a. a.function) now place new old (kept ∙ ap (λ a. a.function) was) ∙ m.functions,
-  (let sums = sum_by-set count_of now place new old within in
-      let here : count_of old ≡ count_of (get_or now place old) = ap count_of was in
-      let rest = sum_by-drop_more count_of all place more within_all in
-      let front : count_of more ≡ count_of (get_or all place more) = ap count_of is in
+    → (functions_of (set now index new) ≡ functions_of first)
+    × (count_held (set now index new) + count_held (drop (index + 1) all) ≤ count_held first + count_held all)
+tables_set first all now index old more new m within was within_all is kept count = (
+  map-set_same (λ a. a.function) now index new old (kept ∙ ap (λ a. a.function) was) ∙ m.functions,
+  (let sums = sum_by-set count_of now index new old within in
+      let here : count_of old ≡ count_of (get_or now index old) = ap count_of was in
+      let rest = sum_by-drop_more count_of all index more within_all in
+      let front : count_of more ≡ count_of (get_or all index more) = ap count_of is in
       let before = m.held in
       omega arith),
 )
 
-pub tables_room : (first all now : List Aggregation) (place : ℕ) (old more : Aggregation) → MergingTables first all place now
-    → place < length now → old ≡ get_or now place old → place < length all → more ≡ get_or all place more
+pub tables_room : (first all now : List Aggregation) (index : ℕ) (old more : Aggregation) → MergingTables first all index now
+    → index < length now → old ≡ get_or now index old → index < length all → more ≡ get_or all index more
     → count_of old + count_of more ≤ count_held first + count_held all
-tables_room first all now place old more m within was within_all is =
-    let one = get_or-le-sum_by count_of now place old within in
-    let here : count_of old ≡ count_of (get_or now place old) = ap count_of was in
-    let rest = sum_by-drop_more count_of all place more within_all in
-    let front : count_of more ≡ count_of (get_or all place more) = ap count_of is in
+tables_room first all now index old more m within was within_all is =
+    let one = get_or-le-sum_by count_of now index old within in
+    let here : count_of old ≡ count_of (get_or now index old) = ap count_of was in
+    let rest = sum_by-drop_more count_of all index more within_all in
+    let front : count_of more ≡ count_of (get_or all index more) = ap count_of is in
     let before = m.held in
     omega arith
 
-pub tables_more : (first all now : List Aggregation) (place : ℕ) (old more new : Aggregation) → MergingTables first all place now
-    → place < length now → old ≡ get_or now place old → place < length all → more ≡ get_or all place more
+pub tables_more : (first all now : List Aggregation) (index : ℕ) (old more new : Aggregation) → MergingTables first all index now
+    → index < length now → old ≡ get_or now index old → index < length all → more ≡ get_or all index more
     → new.function ≡ old.function → TakesAll old more new → count_of new ≤ count_of old + count_of more
-    → MergingTables first all (place + 1) (set now place new)
-tables_more first all now place old more new m within was within_all is kept takes count = record {
-  functions = (tables_set first all now place old more new m within was within_all is kept count).0;
-  done = λ i a b c lt x y z. done i a b c lt x y z (cases_eq i place);
-  todo = λ i le. slice_get-set_other now place new i (λ e. omega arith) ∙ m.todo i (omega arith);
-  held = (tables_set first all now place old more new m within was within_all is kept count).1;
+    → MergingTables first all (index + 1) (set now index new)
+tables_more first all now index old more new m within was within_all is kept takes count = record {
+  functions = (tables_set first all now index old more new m within was within_all is kept count).0;
+  done = λ i a b c lt x y z. done i a b c lt x y z (cases_eq i index);
+  todo = λ i le. slice_get-set_other now index new i (λ e. omega arith) ∙ m.todo i (omega arith);
+  held = (tables_set first all now index old more new m within was within_all is kept count).1;
 }
   where
-    done : (i : ℕ) (a b c : Aggregation) → i < place + 1 → slice_get first i ≡ Some a → slice_get all i ≡ Some b → slice_get (set now place new) i ≡ Some c
-        → ((i ≡ place) ⊎ (i ≡ place → ⊥)) → TakesAll a b c
+    done : (i : ℕ) (a b c : Aggregation) → i < index + 1 → slice_get first i ≡ Some a → slice_get all i ≡ Some b → slice_get (set now index new) i ≡ Some c
+        → ((i ≡ index) ⊎ (i ≡ index → ⊥)) → TakesAll a b c
     done i a b c lt x y z (inl e) =
-        let old_there : slice_get now place ≡ Some old = slice_get-get_or now place old within ∙ ap Some (sym was) in
-        let more_there : slice_get all place ≡ Some more = slice_get-get_or all place more within_all ∙ ap Some (sym is) in
-        let from : old ≡ a = some_is (sym old_there ∙ m.todo place (omega arith) ∙ ap (slice_get first) (sym e) ∙ x) in
+        let old_there : slice_get now index ≡ Some old = slice_get-get_or now index old within ∙ ap Some (sym was) in
+        let more_there : slice_get all index ≡ Some more = slice_get-get_or all index more within_all ∙ ap Some (sym is) in
+        let from : old ≡ a = some_is (sym old_there ∙ m.todo index (omega arith) ∙ ap (slice_get first) (sym e) ∙ x) in
         let by : more ≡ b = some_is (sym more_there ∙ ap (slice_get all) (sym e) ∙ y) in
-        let to : new ≡ c = some_is (sym (slice_get-set_same now place new within) ∙ ap (slice_get (set now place new)) (sym e) ∙ z) in
+        let to : new ≡ c = some_is (sym (slice_get-set_same now index new within) ∙ ap (slice_get (set now index new)) (sym e) ∙ z) in
         subst (λ o. TakesAll o b c) from (subst (λ o. TakesAll old o c) by (subst (TakesAll old more) to takes))
-    done i a b c lt x y z (inr ne) = m.done i a b c (omega arith) x y (sym (slice_get-set_other now place new i ne) ∙ z)
+    done i a b c lt x y z (inr ne) = m.done i a b c (omega arith) x y (sym (slice_get-set_other now index new i ne) ∙ z)
 
 pub tables_all : (first all now : List Aggregation) (xs ys : List Contribution) → functions_of first ≡ functions_of all
     → MergingTables first all (length all) now → StandsFor first xs → StandsFor all ys → StandsFor now (xs ++ ys)
@@ -183,20 +183,20 @@ tables_all first all now xs ys same m stands stands_all agg key =
     at (Some new) (Some old) None c a b e f hx hy = absurd cc
 
 -- both tables have as many aggregations
-pub tables_length : (first all now : List Aggregation) (place : ℕ) → functions_of first ≡ functions_of all → MergingTables first all place now
+pub tables_length : (first all now : List Aggregation) (index : ℕ) → functions_of first ≡ functions_of all → MergingTables first all index now
     → length now ≡ length all
-tables_length first all now place same m =
+tables_length first all now index same m =
     sym (length-map now (λ a. a.function)) ∙ ap length (m.functions ∙ same) ∙ length-map all (λ a. a.function)
 
--- the aggregation at the place has the function of what it takes
-pub tables_function : (first all now : List Aggregation) (place : ℕ) (old more : Aggregation) → functions_of first ≡ functions_of all
-    → MergingTables first all place now → place < length now → old ≡ get_or now place old
-    → place < length all → more ≡ get_or all place more → old.function ≡ more.function
-tables_function first all now place old more same m within was within_all is =
-    let old_there : slice_get now place ≡ Some old = slice_get-get_or now place old within ∙ ap Some (sym was) in
-    let more_there : slice_get all place ≡ Some more = slice_get-get_or all place more within_all ∙ ap Some (sym is) in
-    some_is (sym (ap (option_map (λ a. a.function)) old_there) ∙ sym (slice_get-map (λ a. a.function) now place)
-    ∙ ap (λ fs. slice_get fs place) (m.functions ∙ same) ∙ slice_get-map (λ a. a.function) all place
+-- the aggregation at the index has the function of what it takes
+pub tables_function : (first all now : List Aggregation) (index : ℕ) (old more : Aggregation) → functions_of first ≡ functions_of all
+    → MergingTables first all index now → index < length now → old ≡ get_or now index old
+    → index < length all → more ≡ get_or all index more → old.function ≡ more.function
+tables_function first all now index old more same m within was within_all is =
+    let old_there : slice_get now index ≡ Some old = slice_get-get_or now index old within ∙ ap Some (sym was) in
+    let more_there : slice_get all index ≡ Some more = slice_get-get_or all index more within_all ∙ ap Some (sym is) in
+    some_is (sym (ap (option_map (λ a. a.function)) old_there) ∙ sym (slice_get-map (λ a. a.function) now index)
+    ∙ ap (λ fs. slice_get fs index) (m.functions ∙ same) ∙ slice_get-map (λ a. a.function) all index
     ∙ ap (option_map (λ a. a.function)) more_there)
 
 pub enumerated : (all : List Aggregation) (i : ℕ) (p : ℕ × Aggregation) → i < length (enumerate_from 0 all) → p ≡ get_or (enumerate_from 0 all) i p

@@ -15,8 +15,8 @@ pub(crate) fn is_key_of(key: &Key, values: &[ValueRef<'_>]) -> bool
     if parts.len() != values.len() {
         return false;
     }
-    for place in 0..parts.len() {
-        if !parts[place].is_of(values[place]) {
+    for index in 0..parts.len() {
+        if !parts[index].is_of(values[index]) {
             return false;
         }
     }
@@ -32,8 +32,8 @@ pub(crate) fn key_in_room(
     ensures { IfOk result (λ key. key ≡ key_of values.now) }
 {
     let mut key = with_parts(alloc, room, values.len())?;
-    for place in 0..values.len() {
-        set_part(&mut key, place, values[place])?;
+    for index in 0..values.len() {
+        set_part(&mut key, index, values[index])?;
     }
     Ok(key)
 }
@@ -53,16 +53,16 @@ fn with_parts(alloc: Global, key: Key, parts: usize) -> Result<Key, AllocError>
 }
 
 // Puts a value in the place of a key's part.
-fn set_part(key: &mut Key, place: usize, value: ValueRef<'_>) -> Result<(), AllocError>
-    requires { place < length key.old }
-    ensures { OnOk result (key.new ≡ slice_set key.old place (part_of_lent value.entry)) }
+fn set_part(key: &mut Key, index: usize, value: ValueRef<'_>) -> Result<(), AllocError>
+    requires { index < length key.old }
+    ensures { OnOk result (key.new ≡ slice_set key.old index (part_of_lent value.entry)) }
 {
     match value {
         ValueRef::Int(word) => {
-            key.set_number(place, word.cast_signed());
+            key.set_number(index, word.cast_signed());
             Ok(())
         }
-        ValueRef::Text(bytes) => key.set_name(place, bytes),
+        ValueRef::Text(bytes) => key.set_name(index, bytes),
     }
 }
 

@@ -110,7 +110,7 @@ fn step_bucket(range: LinearRange, x: i64) -> u32
     }
 }
 
-// The place of a number's highest bit.
+// The index of a number's highest bit.
 fn top_bit(n: u64) -> u32
     requires { 0 < n }
     ensures at_least { 2 ^ result ≤ n }

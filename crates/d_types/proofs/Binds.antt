@@ -29,8 +29,8 @@ pub spent : {X B : Type 0} (view : X → B) (result : Result X TypeFault) (r : R
     → IsErrAnd result (λ passed. passed ≡ f.Memory) → Gives view result r
 spent view result r is = let p = err_from_is_err_and result is in rw (p.1, p.2) tt
 
--- where the place and the table of a call that fails only if memory runs out are the result
-pub passed_on : {P T : Type 0} (result : Result P TypeFault) (place : P) (table new : T) (r : Result (P × T) Fault)
-    → r ≡ Ok (place, new) → IfOk result (λ p. p ≡ place) → OnOk result (table ≡ new) → OnlyMemory result → Gives (λ p. (p, table)) result r
-passed_on (Ok p) place table new r is here there memory = rw (here, there) is
-passed_on (Err e) place table new r is here there memory = rw memory tt
+-- where the index and the table of a call that fails only if memory runs out are the result
+pub passed_on : {P T : Type 0} (result : Result P TypeFault) (index : P) (table new : T) (r : Result (P × T) Fault)
+    → r ≡ Ok (index, new) → IfOk result (λ p. p ≡ index) → OnOk result (table ≡ new) → OnlyMemory result → Gives (λ p. (p, table)) result r
+passed_on (Ok p) index table new r is here there memory = rw (here, there) is
+passed_on (Err e) index table new r is here there memory = rw memory tt

@@ -31,7 +31,7 @@ use Rattle.d_types.specs.Formats as formats
 use Rattle.d_types.specs.Lines.{line_of}
 use Rattle.d_types.specs.Needs.{count, need}
 use Rattle.d_types.specs.Rules.{IsInteger}
-use Rattle.d_types.specs.Steps.Aggregations.{place_for, new_aggregation, aggregate}
+use Rattle.d_types.specs.Steps.Aggregations.{index_for, new_aggregation, aggregate}
 use Rattle.d_types.specs.Steps.Faults.{Fault, Cause, refuse, unless, Gives}
 use Rattle.d_types.specs.Steps.Faults.{◌>>=◌ as and_then}
 use Rattle.d_types.specs.Steps.Faults as cause
@@ -101,7 +101,7 @@ print_fails line (Some ps) xs rows g h = by (formats.fit ps xs) h
     by false h = ap type_fault_of (sym (same_fault cause.PrintfArguments line g h))
 
 printed_decided : (line : ℕ) (ts : Trees) (rows : Rows) (aggs : Aggs) → Decides (printed line ts) (at rows aggs) (answer (with_rows aggs) (print line rows ts))
-printed_decided line (tree.more (tree.Known place (literal.Text format)) ts) rows aggs =
+printed_decided line (tree.more (tree.Known index (literal.Text format)) ts) rows aggs =
     follows _ _ (at rows aggs) (with_rows aggs) (with_rows aggs) (wholes end rows ts) _ (wholes_decided ts rows aggs)
     (λ k e. of_known k.1 aggs (fault.PrintfArguments line) _ (print_fails line (pieces format) k.0 k.1) _
     (λ a last h.
@@ -157,20 +157,20 @@ module _ (line : ℕ) (name : List ℕ) (ks : Typeds) (g : Option AggFn) (rows :
   new_decided true few = met _ _ _ _ (few_keys (count ks) few) _ (bounds_decided g refl)
   new_decided false many = unmet _ _ _ _ (λ h. let few = are_few (count ks) h in let never = sym many ∙ few in absurd cc)
 
-  again_decided : (place : ℕ) (a : Agg) (b : Bool) → is_again g a.function ≡ b
-      → Decides (needs (λ known. g ≡ Some a.function) (fault.AggregationRedefined line) >> gives place) (at rows aggs) (answer (with_aggs rows) (if b then Ok (place, aggs) else refuse cause.AggregationRedefined line))
-  again_decided place a true again = met _ _ _ _ (again_is g a.function again) _ (given _ _)
-  again_decided place a false other = unmet _ _ _ _ (λ h. let never = sym other ∙ is_same g a.function h in absurd cc)
+  again_decided : (index : ℕ) (a : Agg) (b : Bool) → is_again g a.function ≡ b
+      → Decides (needs (λ known. g ≡ Some a.function) (fault.AggregationRedefined line) >> gives index) (at rows aggs) (answer (with_aggs rows) (if b then Ok (index, aggs) else refuse cause.AggregationRedefined line))
+  again_decided index a true again = met _ _ _ _ (again_is g a.function again) _ (given _ _)
+  again_decided index a false other = unmet _ _ _ _ (λ h. let never = sym other ∙ is_same g a.function h in absurd cc)
 
-  known_decided : (place : ℕ) (a : Agg) (b : Bool) → fit a.keys ks ≡ b
-      → Decides (placed line name ks g (Some (place, a))) (at rows aggs)
-      (answer (with_aggs rows) (if b then (if is_again g a.function then Ok (place, aggs) else refuse cause.AggregationRedefined line) else refuse cause.Keys line))
-  known_decided place a true fits = met _ _ _ _ (kinds_are a.keys ks fits) _ (again_decided place a (is_again g a.function) refl)
-  known_decided place a false others = unmet _ _ _ _ (λ h. let never = sym (same_kinds a.keys ks h) ∙ others in absurd cc)
+  known_decided : (index : ℕ) (a : Agg) (b : Bool) → fit a.keys ks ≡ b
+      → Decides (placed line name ks g (Some (index, a))) (at rows aggs)
+      (answer (with_aggs rows) (if b then (if is_again g a.function then Ok (index, aggs) else refuse cause.AggregationRedefined line) else refuse cause.Keys line))
+  known_decided index a true fits = met _ _ _ _ (kinds_are a.keys ks fits) _ (again_decided index a (is_again g a.function) refl)
+  known_decided index a false others = unmet _ _ _ _ (λ h. let never = sym (same_kinds a.keys ks h) ∙ others in absurd cc)
 
-  place_decided : (o : Option (ℕ × Agg)) → Decides (placed line name ks g o) (at rows aggs) (answer (with_aggs rows) (place_for line name ks g aggs o))
-  place_decided None = new_decided (nat_le (count ks) 8) refl
-  place_decided (Some (place, a)) = known_decided place a (fit a.keys ks) refl
+  index_decided : (o : Option (ℕ × Agg)) → Decides (placed line name ks g o) (at rows aggs) (answer (with_aggs rows) (index_for line name ks g aggs o))
+  index_decided None = new_decided (nat_le (count ks) 8) refl
+  index_decided (Some (index, a)) = known_decided index a (fit a.keys ks) refl
 
 named_fails : (line : ℕ) (o : Option Aggregating) (h : Fault) → unless cause.Undeclared line o ≡ Err h → type_fault_of h ≡ fault.Undeclared line
 named_fails line None h e = ap type_fault_of (sym (same_fault cause.Undeclared line h e))
@@ -187,8 +187,8 @@ aggregated_decided line name keys word args rows aggs =
     (λ h never. named_fails line (aggregating_named word) h never))
     (λ g f. follows _ _ (at k.1 aggs) (with_rows aggs) with_both (wholes end k.1 args) _ (wholes_decided args k.1 aggs)
     (λ x h. tested _ _ _ _ (arguments_fit g x.0) (record { cause = cause.Mismatch; line = line }) with_both _ refl (λ b. b) (λ b. b)
-    (λ b. let d = place_decided line name k.0 (function g args) x.1 aggs (find_from 0 name aggs) in
-    follows _ _ (at x.1 aggs) (with_aggs x.1) with_both (place_for line name k.0 (function g args) aggs (find_from 0 name aggs)) _ (record { is = d.is; only = d.only })
+    (λ b. let d = index_decided line name k.0 (function g args) x.1 aggs (find_from 0 name aggs) in
+    follows _ _ (at x.1 aggs) (with_aggs x.1) with_both (index_for line name k.0 (function g args) aggs (find_from 0 name aggs)) _ (record { is = d.is; only = d.only })
     (λ a m. given (Aggregate a.0 k.0 (first x.0)) (at x.1 a.1))))))
 
 -- ---- statements

@@ -58,16 +58,16 @@ reads_complete rows (v.Plain line name) ks z h = rw (h.1, h.2, h.3) refl
 reads_complete rows (v.Thread line name) ks z h = loads_complete s.Thread line name rows ks z h
 reads_complete rows (v.Clause line name) ks z h = loads_complete s.Clause line name rows ks z h
 
-places_complete : (space : Space) (line : ℕ) (name : List ℕ) (rows : Rows) (t : Option DType) (ks : Typeds) (slot : ℕ) (last : Rows) →
+indices_complete : (space : Space) (line : ℕ) (name : List ℕ) (rows : Rows) (t : Option DType) (ks : Typeds) (slot : ℕ) (last : Rows) →
     IsSlotOf space name rows t ks slot last → slot_for space line name rows t ks (find space name rows) ≡ Ok (slot, last)
-places_complete space line name rows t ks slot last (inl h) = rw (h.0, h.1, h.2, h.3) refl
-places_complete space line name rows t ks slot last (inr h) = rw (h.0, own_keys rows slot ks h.1, h.2) refl
+indices_complete space line name rows t ks slot last (inl h) = rw (h.0, h.1, h.2, h.3) refl
+indices_complete space line name rows t ks slot last (inr h) = rw (h.0, own_keys rows slot ks h.1, h.2) refl
 
 pub targets_complete : (rows : Rows) (x : Variable) (t : Option DType) (ks : Typeds) (slot : ℕ) (last : Rows) →
     IsTargetOf rows x t ks slot last → target rows x t ks ≡ Ok (slot, last)
 targets_complete rows (v.Plain line name) t ks slot last h = absurd h
-targets_complete rows (v.Thread line name) t ks slot last h = places_complete s.Thread line name rows t ks slot last h
-targets_complete rows (v.Clause line name) t ks slot last h = places_complete s.Clause line name rows t ks slot last h
+targets_complete rows (v.Thread line name) t ks slot last h = indices_complete s.Thread line name rows t ks slot last h
+targets_complete rows (v.Clause line name) t ks slot last h = indices_complete s.Clause line name rows t ks slot last h
 
 fits_complete : (x : Typed) (t : DType) (y : Typed) → IsConverted x t y → as_type (type_of x) t x ≡ Some y
 fits_complete x (Int u) y h = rw (h.1, h.2) refl

@@ -186,18 +186,18 @@ module _ (rows : Rows) where
 abbrev Has : Rows → ℕ → Rows → Type 0
 Has rows slot after = Grows rows after × (slot < length after)
 
-places_grow : (space : Space) (name : List ℕ) (rows : Rows) (t : Option DType) (keys : Typeds) (slot : ℕ) (after : Rows) →
+indices_grow : (space : Space) (name : List ℕ) (rows : Rows) (t : Option DType) (keys : Typeds) (slot : ℕ) (after : Rows) →
     IsSlotOf space name rows t keys slot after → Has rows slot after
-places_grow space name rows t keys slot after (inl p) =
+indices_grow space name rows t keys slot after (inl p) =
     subst (Has rows slot) (sym p.3) (push_grows rows (new_row space name t (kinds_of_typed keys)), subst (λ n. n < length (rows ++ new_row space name t (kinds_of_typed keys) ∷ [])) (sym p.2) (push_below rows (new_row space name t (kinds_of_typed keys))))
-places_grow space name rows t keys slot after (inr p) =
+indices_grow space name rows t keys slot after (inr p) =
     let grown : Grows rows (settle_slot (type_at rows slot) slot t rows) = settled_grows (type_at rows slot) slot t rows refl in
     subst (Has rows slot) (sym p.2) (grown, omega (arith, grown.1, found_below space name rows slot p.0))
 
 targets_grow : (rows : Rows) (x : Variable) (t : Option DType) (keys : Typeds) (slot : ℕ) (after : Rows) → IsTargetOf rows x t keys slot after → Has rows slot after
 targets_grow rows (v.Plain line name) t keys slot after h = absurd h
-targets_grow rows (v.Thread line name) t keys slot after h = places_grow s.Thread name rows t keys slot after h
-targets_grow rows (v.Clause line name) t keys slot after h = places_grow s.Clause name rows t keys slot after h
+targets_grow rows (v.Thread line name) t keys slot after h = indices_grow s.Thread name rows t keys slot after h
+targets_grow rows (v.Clause line name) t keys slot after h = indices_grow s.Clause name rows t keys slot after h
 
 -- what an assignment leaves: a grown table, and a tree that is consistent with it
 abbrev Leaves : Rows → Typed → Rows → Type 0

@@ -50,7 +50,7 @@ module _ (P Q : Typed → Type 0) (to : (z : Typed) → P z → Q z) where
   action_on (Trace x) h = to x h
   action_on (Print format args) h = each_on args h
   action_on (Exit x) h = to x h
-  action_on (Aggregate place keys argument) h = (each_on keys h.0, any_on argument h.1)
+  action_on (Aggregate index keys argument) h = (each_on keys h.0, any_on argument h.1)
 
   actions_on : (all : List Action) → ActionsAre P all → ActionsAre Q all
   actions_on [] h = tt

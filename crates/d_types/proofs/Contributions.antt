@@ -19,7 +19,7 @@ one_each : (all : List Effect) → length (contributions_in all) ≤ length all
 one_each [] = omega arith
 one_each (ef.Nothing ∷ rest) = let less = one_each rest in omega (arith, less)
 one_each (ef.Says text ∷ rest) = let less = one_each rest in omega (arith, less)
-one_each (ef.Adds place key z ∷ rest) = let less = one_each rest in omega (arith, less)
+one_each (ef.Adds index key z ∷ rest) = let less = one_each rest in omega (arith, less)
 one_each (ef.Exits status ∷ rest) = let less = one_each rest in omega (arith, less)
 
 module _ {E Es : Type 0} (by : Evaluation E Es) where

@@ -27,7 +27,7 @@ use Rattle.d_types.specs.Steps.Typing.{only, expr, whole}
 use Rattle.d_types.specs.Steps.Statements.{wholes, trace, exit_by, exit, print_with, not_printed}
 use Rattle.d_types.specs.Steps.Statements.{print_by, print, evaluate, call_statement, action}
 use Rattle.d_types.specs.Aggregations.{arguments_fit, first, function, find_from}
-use Rattle.d_types.specs.Steps.Aggregations.{place_for}
+use Rattle.d_types.specs.Steps.Aggregations.{index_for}
 use Rattle.d_types.specs.Steps.Aggregations.{aggregate}
 use Rattle.d_types.specs.Steps.Scripts.{declaration, test_of, predicate, statement, statements}
 use Rattle.d_types.specs.Steps.Scripts.{clause}
@@ -148,11 +148,11 @@ first_fits : (args : Typeds) → AllFit args → OneFits (first args)
 first_fits end d = tt
 first_fits (more x rest) d = d.0
 
-joined_fits : (b : Bool) (line : ℕ) (keys args : Typeds) (place : Result (ℕ × Aggs) Fault) (rows : Rows) (r : Action × (Rows × Aggs)) → AllFit keys → AllFit args →
-    (if b then (place >>= λ a. Ok (Aggregate a.0 keys (first args), (rows, a.1))) else refuse Mismatch line) ≡ Ok r → ActionFits r.0
-joined_fits false line keys args place rows r d e h = cc
-joined_fits true line keys args place rows r d e h =
-    let p = bound place _ _ h in
+joined_fits : (b : Bool) (line : ℕ) (keys args : Typeds) (index : Result (ℕ × Aggs) Fault) (rows : Rows) (r : Action × (Rows × Aggs)) → AllFit keys → AllFit args →
+    (if b then (index >>= λ a. Ok (Aggregate a.0 keys (first args), (rows, a.1))) else refuse Mismatch line) ≡ Ok r → ActionFits r.0
+joined_fits false line keys args index rows r d e h = cc
+joined_fits true line keys args index rows r d e h =
+    let p = bound index _ _ h in
     let same : (Aggregate p.0.0 keys (first args), (rows, p.0.1)) ≡ r = cc in
     subst (λ (y : Action × (Rows × Aggs)). ActionFits y.0) same (d, first_fits args e)
 
@@ -162,7 +162,7 @@ aggregate_fits line name keys g args rows aggs r h =
     let k = bound (wholes end rows keys) _ _ h in
     let a = bound (unless Undeclared line (aggregating_named g)) _ _ k.2 in
     let x = bound (wholes end k.0.1 args) _ _ a.2 in
-    joined_fits (arguments_fit a.0 x.0.0) line k.0.0 x.0.0 (place_for line name k.0.0 (function a.0 args) aggs (find_from 0 name aggs)) x.0.1 r
+    joined_fits (arguments_fit a.0 x.0.0) line k.0.0 x.0.0 (index_for line name k.0.0 (function a.0 args) aggs (find_from 0 name aggs)) x.0.1 r
     (all_fit rows keys k.0 k.1) (all_fit k.0.1 args x.0 x.1) x.2
 
 statement_fits : (rows : Rows) (aggs : Aggs) (t : StmtTree) (r : Action × (Rows × Aggs)) → statement rows aggs t ≡ Ok r → ActionFits r.0
@@ -250,7 +250,7 @@ action_fits_prop (Evaluate x) = hlevel le_prop
 action_fits_prop (Trace x) = hlevel le_prop
 action_fits_prop (Print format args) = all_fit_prop args
 action_fits_prop (Exit x) = hlevel le_prop
-action_fits_prop (Aggregate place keys argument) = hlevel (all_fit_prop, one_fits_prop)
+action_fits_prop (Aggregate index keys argument) = hlevel (all_fit_prop, one_fits_prop)
 
 actions_fit_prop : (all : List Action) → IsProp (ActionsFit all)
 actions_fit_prop [] = hlevel

@@ -71,8 +71,8 @@ at slot t = record { slot = slot; kind = kind_of_type t }
 module _ (slots : Slots) where
   one_type : (x : Variable) (slot : ℕ) (t : DType) → IsKnown slots x → slots slot ≡ Some t → var_of x ≡ at slot t → x.holds ≡ t
   one_type x slot t known other same =
-      let place : x.slot ≡ slot = ap (λ (v : Var). v.slot) same in
-      let both : Some x.holds ≡ Some t = sym known ∙ ap slots place ∙ other in
+      let index : x.slot ≡ slot = ap (λ (v : Var). v.slot) same in
+      let both : Some x.holds ≡ Some t = sym known ∙ ap slots index ∙ other in
       cc
 
   -- what is read where something of the type of x was set at x
@@ -90,22 +90,22 @@ module _ (slots : Slots) where
   left_true true b e = refl
   left_true false b e = e
 
-  own_are : (own : Var → List KeyPart → Value) (x : Variable) (place : List KeyPart) (new : Value) → AreTypedOwn slots own → IsKnown slots x → IsOf x.holds new →
-      AreTypedOwn slots (with_own own (var_of x) place new)
-  own_are own x place new good known is slot t key other =
-      chosen (same_var (var_of x) (at slot t) && same_key place key) x t new (own (at slot t) key) is
-      (λ e. one_type x slot t known other ((same_var_decides (var_of x) (at slot t)).0 (left_true (same_var (var_of x) (at slot t)) (same_key place key) e)))
+  own_are : (own : Var → List KeyPart → Value) (x : Variable) (index : List KeyPart) (new : Value) → AreTypedOwn slots own → IsKnown slots x → IsOf x.holds new →
+      AreTypedOwn slots (with_own own (var_of x) index new)
+  own_are own x index new good known is slot t key other =
+      chosen (same_var (var_of x) (at slot t) && same_key index key) x t new (own (at slot t) key) is
+      (λ e. one_type x slot t known other ((same_var_decides (var_of x) (at slot t)).0 (left_true (same_var (var_of x) (at slot t)) (same_key index key) e)))
       (good slot t key other)
 
-  set_in_is : (s : Space) (vars : Variables) (x : Variable) (place : List KeyPart) (new : Value) → AreTyped slots vars → IsKnown slots x → IsOf x.holds new →
-      AreTyped slots (set_in s vars (var_of x) place new)
-  set_in_is sp.Thread vars x place new good known is = (good.0, own_are vars.own x place new good.1 known is)
-  set_in_is sp.Clause vars x place new good known is = (locals_are vars.locals x new good.0 known is, good.1)
+  set_in_is : (s : Space) (vars : Variables) (x : Variable) (index : List KeyPart) (new : Value) → AreTyped slots vars → IsKnown slots x → IsOf x.holds new →
+      AreTyped slots (set_in s vars (var_of x) index new)
+  set_in_is sp.Thread vars x index new good known is = (good.0, own_are vars.own x index new good.1 known is)
+  set_in_is sp.Clause vars x index new good known is = (locals_are vars.locals x new good.0 known is, good.1)
 
   -- a variable that gets a value of its type
-  set_is : (vars : Variables) (x : Variable) (place : List KeyPart) (value : Value) → AreTyped slots vars → IsKnown slots x → IsOf x.holds value →
-      AreTyped slots (set vars x place value)
-  set_is vars x place value good known is = set_in_is x.space vars x place (as_kind (kind_of_type x.holds) value) good known (stored_is x.holds value is)
+  set_is : (vars : Variables) (x : Variable) (index : List KeyPart) (value : Value) → AreTyped slots vars → IsKnown slots x → IsOf x.holds value →
+      AreTyped slots (set vars x index value)
+  set_is vars x index value good known is = set_in_is x.space vars x index (as_kind (kind_of_type x.holds) value) good known (stored_is x.holds value is)
 
   value_in_is : (s : Space) (vars : Variables) (x : Variable) (key : List KeyPart) → AreTyped slots vars → IsKnown slots x → IsOf x.holds (value_in_space s vars (var_of x) key)
   value_in_is sp.Thread vars x key good known = good.1 x.slot x.holds key known

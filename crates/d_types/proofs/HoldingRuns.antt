@@ -60,10 +60,10 @@ module _ (slots : Slots) (f : Firing) (fit : HasTypedBuiltIns f) where
   effect_kept (Exit a) vars is good =
       one slots (λ y. Unit {0}) (λ y. Unit {0}) (number_outcome (eval f a vars)) (λ word. Has (ef.Exits (word % 256))) (number_kept a vars is good)
       (λ w late any well. (tt, well))
-  effect_kept (Aggregate place keys argument) vars is good =
-      one slots (λ y. Unit {0}) (λ y. Unit {0}) (keys_of f keys vars) (λ key vars. with (argument_value f argument vars) (λ z. Has (ef.Adds place key z)))
+  effect_kept (Aggregate index keys argument) vars is good =
+      one slots (λ y. Unit {0}) (λ y. Unit {0}) (keys_of f keys vars) (λ key vars. with (argument_value f argument vars) (λ z. Has (ef.Adds index key z)))
       (keys_are slots f fit keys vars (all_are keys is.0) good)
-      (λ key late any well. one slots (λ y. Unit {0}) (λ y. Unit {0}) (argument_value f argument late) (λ z. Has (ef.Adds place key z)) (given_kept argument late is.1 well)
+      (λ key late any well. one slots (λ y. Unit {0}) (λ y. Unit {0}) (argument_value f argument late) (λ z. Has (ef.Adds index key z)) (given_kept argument late is.1 well)
       (λ z last every fine. (tt, fine)))
 
   followed_kept : (o : Outcome Effect) (go : Variables → Ran) → Kept o → ((vars : Variables) → AreTyped slots vars → AreTyped slots (go vars).variables) →
@@ -87,7 +87,7 @@ module _ (slots : Slots) (f : Firing) (fit : HasTypedBuiltIns f) where
   guarded_kept None go vars is good rest = rest vars good
   guarded_kept (Some a) go vars is good rest = where_true_kept (number_outcome (eval f a vars)) go (number_kept a vars is good) rest
 
-  pub run_kept : (place : ℕ) (clause : ClauseMeant) (vars : Variables) → ClauseIs (IsConsistent slots) clause → AreTyped slots vars →
-      AreTyped slots (run_of f place clause vars).variables
-  run_kept place clause vars is good =
+  pub run_kept : (index : ℕ) (clause : ClauseMeant) (vars : Variables) → ClauseIs (IsConsistent slots) clause → AreTyped slots vars →
+      AreTyped slots (run_of f index clause vars).variables
+  run_kept index clause vars is good =
       guarded_kept clause.predicate (statements_of f clause.statements) vars is.0 good (λ late well. statements_kept clause.statements late is.1 well)

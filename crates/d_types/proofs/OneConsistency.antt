@@ -97,7 +97,7 @@ module _ (slots : Slots) where
   action_prop (Trace a) = one_prop a
   action_prop (Print format arguments) = all_prop arguments
   action_prop (Exit a) = one_prop a
-  action_prop (Aggregate place keys argument) = hlevel (all_prop, any_prop)
+  action_prop (Aggregate index keys argument) = hlevel (all_prop, any_prop)
 
   actions_prop : (all : List Action) → IsProp (ActionsAre (IsConsistent slots) all)
   actions_prop [] = hlevel

@@ -37,7 +37,7 @@ use Rattle.d_types.proofs.OneConsistency.{integer_prop}
 use Rattle.d_values.specs.declared.int_type.DType.{DType}
 use Rattle.d_values.specs.declared.int_type.DType.TheVariants as ty
 use Rattle.d_types.proofs.WellTyped.{Acts, Stands, Tests, Does, AllDo, Probes}
-use Rattle.d_types.proofs.WellTyped.{IsPlaceOf}
+use Rattle.d_types.proofs.WellTyped.{IsIndexOf}
 use Rattle.d_types.proofs.WellTyped.{AllItems}
 use Rattle.d_types.proofs.WellTyped.{IsWell}
 use Rattle.d_types.specs.Proper.{HasArgument, Suits, IsProperAction, IsProperPredicate}
@@ -143,13 +143,13 @@ counted_kinds (more x rest) = let one = counted_kinds rest in omega (arith, one)
 
 -- ---- aggregations
 
--- what the first has, the second has at the same place
+-- what the first has, the second has at the same index
 abbrev Keeps : Aggs → Aggs → Type 0
-Keeps aggs after = (place : ℕ) (a : Agg) → slice_get aggs place ≡ Some a → slice_get after place ≡ Some a
+Keeps aggs after = (index : ℕ) (a : Agg) → slice_get aggs index ≡ Some a → slice_get after index ≡ Some a
 
 -- each has at most 8 keys
 abbrev Few : Aggs → Type 0
-Few aggs = (place : ℕ) (a : Agg) → slice_get aggs place ≡ Some a → length a.keys ≤ 8
+Few aggs = (index : ℕ) (a : Agg) → slice_get aggs index ≡ Some a → length a.keys ≤ 8
 
 suited : (o : Option Agg) (keys : Typeds) (argument : Option Typed) → Suits o keys argument → (a : Agg) × (o ≡ Some a)
 suited None keys argument h = absurd h
@@ -160,10 +160,10 @@ action_on aggs after keeps (Evaluate x) h = tt
 action_on aggs after keeps (Trace x) h = tt
 action_on aggs after keeps (Print format args) h = h
 action_on aggs after keeps (Exit x) h = h
-action_on aggs after keeps (Aggregate place keys argument) h =
-    let known = suited (slice_get aggs place) keys argument h.1 in
-    let there = keeps place known.0 known.1 in
-    (slice_get_within after place known.0 there, subst (λ o. Suits o keys argument) (known.1 ∙ sym there) h.1)
+action_on aggs after keeps (Aggregate index keys argument) h =
+    let known = suited (slice_get aggs index) keys argument h.1 in
+    let there = keeps index known.0 known.1 in
+    (slice_get_within after index known.0 there, subst (λ o. Suits o keys argument) (known.1 ∙ sym there) h.1)
 
 actions_on : (aggs after : Aggs) → Keeps aggs after → (all : List Action) → All (IsProperAction aggs) all → All (IsProperAction after) all
 actions_on aggs after keeps all h k d below = action_on aggs after keeps _ (h k d below)
@@ -172,12 +172,12 @@ clauses_on : (aggs after : Aggs) → Keeps aggs after → (c : ClauseMeant) → 
 clauses_on aggs after keeps c h = record { predicate = h.predicate; statements = actions_on aggs after keeps c.statements h.statements }
 
 stay : (aggs after : Aggs) → after ≡ aggs → Few aggs → Keeps aggs after × Few after
-stay aggs after e few = subst (λ (x : Aggs). Keeps aggs x × Few x) (sym e) (λ place a h. h, few)
+stay aggs after e few = subst (λ (x : Aggs). Keeps aggs x × Few x) (sym e) (λ index a h. h, few)
 
 pushed : (aggs : Aggs) (new : Agg) → Keeps aggs (aggs ++ new ∷ [])
-pushed [] new place a h = cc
+pushed [] new index a h = cc
 pushed (x ∷ aggs) new zero a h = h
-pushed (x ∷ aggs) new (suc place) a h = pushed aggs new place a h
+pushed (x ∷ aggs) new (suc index) a h = pushed aggs new index a h
 
 at_end : (aggs : Aggs) (new : Agg) → slice_get (aggs ++ new ∷ []) (length aggs) ≡ Some new
 at_end [] new = refl
@@ -185,19 +185,19 @@ at_end (x ∷ aggs) new = at_end aggs new
 
 few_pushed : (aggs : Aggs) (new : Agg) → Few aggs → length new.keys ≤ 8 → Few (aggs ++ new ∷ [])
 few_pushed [] new few short zero a h = let same : new ≡ a = cc in subst (λ (b : Agg). length b.keys ≤ 8) same short
-few_pushed [] new few short (suc place) a h = cc
+few_pushed [] new few short (suc index) a h = cc
 few_pushed (x ∷ aggs) new few short zero a h = few zero a h
-few_pushed (x ∷ aggs) new few short (suc place) a h = few_pushed aggs new (λ p b e. few (suc p) b e) short place a h
+few_pushed (x ∷ aggs) new few short (suc index) a h = few_pushed aggs new (λ p b e. few (suc p) b e) short index a h
 
-found_at : (n : ℕ) (name : List ℕ) (aggs : Aggs) (place : ℕ) (a : Agg) → find_from n name aggs ≡ Some (place, a) → (i : ℕ) × (place ≡ n + i) × (slice_get aggs i ≡ Some a)
-found_at n name [] place a h = cc
-found_at n name (x ∷ aggs) place a h = either (bytes_eq x.name name) (found_at (n + 1) name aggs place a) h
+found_at : (n : ℕ) (name : List ℕ) (aggs : Aggs) (index : ℕ) (a : Agg) → find_from n name aggs ≡ Some (index, a) → (i : ℕ) × (index ≡ n + i) × (slice_get aggs i ≡ Some a)
+found_at n name [] index a h = cc
+found_at n name (x ∷ aggs) index a h = either (bytes_eq x.name name) (found_at (n + 1) name aggs index a) h
   where
-    either : (b : Bool) → (find_from (n + 1) name aggs ≡ Some (place, a) → (i : ℕ) × (place ≡ n + 1 + i) × (slice_get aggs i ≡ Some a)) →
-        (if b then Some (n, x) else find_from (n + 1) name aggs) ≡ Some (place, a) → (i : ℕ) × (place ≡ n + i) × (slice_get (x ∷ aggs) i ≡ Some a)
+    either : (b : Bool) → (find_from (n + 1) name aggs ≡ Some (index, a) → (i : ℕ) × (index ≡ n + 1 + i) × (slice_get aggs i ≡ Some a)) →
+        (if b then Some (n, x) else find_from (n + 1) name aggs) ≡ Some (index, a) → (i : ℕ) × (index ≡ n + i) × (slice_get (x ∷ aggs) i ≡ Some a)
     either true go e =
-        let same : ◌≡◌ {A = ℕ × Agg} (n, x) (place, a) = cc in
-        let number : n ≡ place = ap (λ (p : ℕ × Agg). p.0) same in
+        let same : ◌≡◌ {A = ℕ × Agg} (n, x) (index, a) = cc in
+        let number : n ≡ index = ap (λ (p : ℕ × Agg). p.0) same in
         (zero, omega (arith, number), ap (λ (p : ℕ × Agg). Some p.1) same)
     either false go e =
         let rest = go e in
@@ -231,9 +231,9 @@ stands_proper rows (tree.Choice c d e) a after aggs h = subst (IsProperAction ag
 stands_proper rows (tree.Assign op x keys e) a after aggs h = subst (IsProperAction aggs) (sym h.2) tt
 
 -- the statement that names an aggregation first, and each later one
-joins_proper : (name : List ℕ) (ks : Typeds) (g : Aggregating) (args : Trees) (xs : Typeds) (aggs : Aggs) (place : ℕ) (known : Aggs) → Few aggs → arguments_fit g xs ≡ true →
-    IsPlaceOf name ks (function g args) aggs place known → Leaves aggs (Aggregate place ks (first xs)) known
-joins_proper name ks g args xs aggs place known few fits (inl j) =
+joins_proper : (name : List ℕ) (ks : Typeds) (g : Aggregating) (args : Trees) (xs : Typeds) (aggs : Aggs) (index : ℕ) (known : Aggs) → Few aggs → arguments_fit g xs ≡ true →
+    IsIndexOf name ks (function g args) aggs index known → Leaves aggs (Aggregate index ks (first xs)) known
+joins_proper name ks g args xs aggs index known few fits (inl j) =
     let new : Agg = record { name = name; keys = kinds_of_typed ks; function = j.0 } in
     let small : count ks ≤ 8 = grind (arith, nat_tests, j.2) in
     let short : length new.keys ≤ 8 = omega (arith, counted_kinds ks, small) in
@@ -242,15 +242,15 @@ joins_proper name ks g args xs aggs place known few fits (inl j) =
     let last : Leaves aggs (Aggregate (length aggs) ks (first xs)) (aggs ++ new ∷ []) =
     (pushed aggs new, few_pushed aggs new few short, (slice_get_within (aggs ++ new ∷ []) (length aggs) new here, subst (λ o. Suits o ks (first xs)) (sym here) suits))
     in
-    subst (λ (x : Aggs). Leaves aggs (Aggregate place ks (first xs)) x) (sym j.5) (subst (λ n. Leaves aggs (Aggregate n ks (first xs)) (aggs ++ new ∷ [])) (sym j.4) last)
-joins_proper name ks g args xs aggs place known few fits (inr j) =
-    let found = found_at 0 name aggs place j.0 j.1 in
-    let here : slice_get aggs place ≡ Some j.0 = subst (λ n. slice_get aggs n ≡ Some j.0) (let e = found.1 in let d : found.0 ≡ place = omega (arith, e) in d) found.2 in
-    let small : count ks ≤ 8 = omega (arith, counted_kinds ks, ap length j.2, few place j.0 here) in
+    subst (λ (x : Aggs). Leaves aggs (Aggregate index ks (first xs)) x) (sym j.5) (subst (λ n. Leaves aggs (Aggregate n ks (first xs)) (aggs ++ new ∷ [])) (sym j.4) last)
+joins_proper name ks g args xs aggs index known few fits (inr j) =
+    let found = found_at 0 name aggs index j.0 j.1 in
+    let here : slice_get aggs index ≡ Some j.0 = subst (λ n. slice_get aggs n ≡ Some j.0) (let e = found.1 in let d : found.0 ≡ index = omega (arith, e) in d) found.2 in
+    let small : count ks ≤ 8 = omega (arith, counted_kinds ks, ap length j.2, few index j.0 here) in
     let suits : Suits (Some j.0) ks (first xs) = (j.2, small, argument_taken g args xs j.0.function fits (counted g args j.0.function j.3)) in
-    let last : IsProperAction aggs (Aggregate place ks (first xs)) = (slice_get_within aggs place j.0 here, subst (λ o. Suits o ks (first xs)) (sym here) suits) in
+    let last : IsProperAction aggs (Aggregate index ks (first xs)) = (slice_get_within aggs index j.0 here, subst (λ o. Suits o ks (first xs)) (sym here) suits) in
     let all = stay aggs known j.4 few in
-    (all.0, all.1, action_on aggs known all.0 (Aggregate place ks (first xs)) last)
+    (all.0, all.1, action_on aggs known all.0 (Aggregate index ks (first xs)) last)
 
 does_proper : (rows : Rows) (aggs : Aggs) (t : StmtTree) (a : Action) (after : Rows) (known : Aggs) → Few aggs → Does rows aggs t a after known → Leaves aggs a known
 does_proper rows aggs (tree.Expression t) a after known few h =
@@ -261,7 +261,7 @@ does_proper rows aggs (tree.Aggregation line name keys word args) a after known 
     subst (λ (x : Action). Leaves aggs x known) (sym h.10) joined
 
 on : (aggs mid after : Aggs) → Keeps aggs mid → Keeps mid after → Keeps aggs after
-on aggs mid after g h place a e = h place a (g place a e)
+on aggs mid after g h index a e = h index a (g index a e)
 
 all_do_proper : (rows : Rows) (aggs : Aggs) (ts : List StmtTree) (all : List Action) (after : Rows) (known : Aggs) → Few aggs → AllDo rows aggs ts all after known →
     Keeps aggs known × Few known × All (IsProperAction known) all
@@ -301,7 +301,7 @@ items_proper rows aggs (tree.Probing c ∷ rest) all after known few h =
     )
 
 well_is_proper : (source : List ItemTree) (m : ScriptMeant) → IsWell source m → IsProperScript m
-well_is_proper source m h = (items_proper [] [] source m.clauses h.0 m.aggregations (λ place a e. cc) h.1).1
+well_is_proper source m h = (items_proper [] [] source m.clauses h.0 m.aggregations (λ index a e. cc) h.1).1
 
 -- ---- one proof at most
 
@@ -333,7 +333,7 @@ action_prop aggs (Evaluate x) = hlevel
 action_prop aggs (Trace x) = hlevel
 action_prop aggs (Print format args) = hlevel Bool-set
 action_prop aggs (Exit x) = hlevel integer_prop
-action_prop aggs (Aggregate place keys argument) = hlevel (le_prop, suits_prop)
+action_prop aggs (Aggregate index keys argument) = hlevel (le_prop, suits_prop)
 
 predicate_prop : (p : Option Typed) → IsProp (IsProperPredicate p)
 predicate_prop None = hlevel

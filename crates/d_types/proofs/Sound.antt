@@ -152,12 +152,12 @@ allowed : (line : ℕ) (cause : Cause) (b : Bool) (a slot : ℕ) (m last : Rows)
 allowed line cause false a slot m last h = cc
 allowed line cause true a slot m last h = let p = pair_is a slot m last h in (refl, p.0, p.1)
 
-places_sound_at : (space : Space) (line : ℕ) (name : List ℕ) (rows : Rows) (t : Option DType) (ks : Typeds) (o : Option ℕ) (slot : ℕ) (last : Rows) →
+indices_sound_at : (space : Space) (line : ℕ) (name : List ℕ) (rows : Rows) (t : Option DType) (ks : Typeds) (o : Option ℕ) (slot : ℕ) (last : Rows) →
     find space name rows ≡ o → slot_for space line name rows t ks o ≡ Ok (slot, last) → IsSlotOf space name rows t ks slot last
-places_sound_at space line name rows t ks None slot last p h =
+indices_sound_at space line name rows t ks None slot last p h =
     let q = allowed line _ _ _ slot _ last h in
     inl (p, q.0, q.1, q.2)
-places_sound_at space line name rows t ks (Some n) slot last p h =
+indices_sound_at space line name rows t ks (Some n) slot last p h =
     let q = allowed line _ _ _ slot _ last h in
     inr (p ∙ ap (λ k. Some k) (sym q.1), keys_are rows slot ks (ap (λ k. keys_fit rows k ks) q.1 ∙ q.0), q.2 ∙ ap (λ k. settle_slot (type_at rows k) k t rows) (sym q.1))
 
@@ -169,8 +169,8 @@ not_plain line name (Some b) (more x rest) slot last h = cc
 pub targets_sound : (rows : Rows) (x : Variable) (t : Option DType) (ks : Typeds) (slot : ℕ) (last : Rows) →
     target rows x t ks ≡ Ok (slot, last) → IsTargetOf rows x t ks slot last
 targets_sound rows (v.Plain line name) t ks slot last h = not_plain line name _ ks slot last h
-targets_sound rows (v.Thread line name) t ks slot last h = places_sound_at s.Thread line name rows t ks _ slot last refl h
-targets_sound rows (v.Clause line name) t ks slot last h = places_sound_at s.Clause line name rows t ks _ slot last refl h
+targets_sound rows (v.Thread line name) t ks slot last h = indices_sound_at s.Thread line name rows t ks _ slot last refl h
+targets_sound rows (v.Clause line name) t ks slot last h = indices_sound_at s.Clause line name rows t ks _ slot last refl h
 
 two : (a b : Typed) (m n : Rows) → ◌≡◌ {A = Option (Typed × Rows)} (Some (a, m)) (Some (b, n)) → (b ≡ a) × (n ≡ m)
 two a b m n h =

@@ -38,14 +38,14 @@ use Rattle.d_types.specs.Steps.Variables.{fit}
 use Rattle.d_types.specs.Steps.Aggregations.{is_again}
 use Rattle.d_types.proofs.Tables.{kinds_are}
 use Rattle.d_types.proofs.NewAggregations.{again_is}
-use Rattle.d_types.specs.Steps.Aggregations.{new_aggregation, place_for, aggregate}
+use Rattle.d_types.specs.Steps.Aggregations.{new_aggregation, index_for, aggregate}
 use Rattle.d_types.specs.Steps.Scripts.{declare, declaration, test_of, predicate, statement}
 use Rattle.d_types.specs.Steps.Scripts.{statements}
 use Rattle.d_types.specs.Steps.Scripts.{clause, item, items, script}
 use Rattle.d_types.proofs.WellTyped.{Types, AllTypes}
 use Rattle.d_types.specs.Rules.{IsInteger}
 use Rattle.d_types.proofs.WellTyped.{Evaluates, Prints, Acts, Stands, Aggregates}
-use Rattle.d_types.proofs.WellTyped.{IsPlaceOf}
+use Rattle.d_types.proofs.WellTyped.{IsIndexOf}
 use Rattle.d_types.proofs.WellTyped.{Declares}
 use Rattle.d_types.proofs.WellTyped.{DeclaresRow, Tests, Does, AllDo, Probes, AllItems, IsWell}
 use Rattle.d_types.proofs.Complete.{after, after-add, after-end}
@@ -150,29 +150,29 @@ stands_sound rows (tree.Assign op x keys e) r h = evaluates_sound rows (tree.Ass
 -- ---- aggregation statements
 
 pub joins_sound : (line : ℕ) (name : List ℕ) (ks : Typeds) (g : Option AggFn) (aggs : Aggs) (o : Option (ℕ × Agg)) (r : ℕ × Aggs) →
-    find_from 0 name aggs ≡ o → place_for line name ks g aggs o ≡ Ok r → IsPlaceOf name ks g aggs r.0 r.1
+    find_from 0 name aggs ≡ o → index_for line name ks g aggs o ≡ Ok r → IsIndexOf name ks g aggs r.0 r.1
 joins_sound line name ks g aggs None r e h = fresh (nat_le (count ks) 8) refl h
   where
-    fresh : (b : Bool) → nat_le (count ks) 8 ≡ b → (if b then (unless LquantizeBounds line g >>= new_aggregation name ks aggs) else refuse Keys line) ≡ Ok r → IsPlaceOf name ks g aggs r.0 r.1
+    fresh : (b : Bool) → nat_le (count ks) 8 ≡ b → (if b then (unless LquantizeBounds line g >>= new_aggregation name ks aggs) else refuse Keys line) ≡ Ok r → IsIndexOf name ks g aggs r.0 r.1
     fresh false d k = cc
     fresh true d k =
         let q = bound (unless LquantizeBounds line g) _ _ k in
         let same = ok_is _ _ q.2 in
-        subst (λ (y : ℕ × Aggs). IsPlaceOf name ks g aggs y.0 y.1) same (inl (q.0, e, d, is_some_of LquantizeBounds line g q.0 q.1, refl, refl))
+        subst (λ (y : ℕ × Aggs). IsIndexOf name ks g aggs y.0 y.1) same (inl (q.0, e, d, is_some_of LquantizeBounds line g q.0 q.1, refl, refl))
 joins_sound line name ks g aggs (Some p) r e h = again (fit p.1.keys ks) refl h
   where
     again : (b : Bool) → fit p.1.keys ks ≡ b →
-        (if b then (if is_again g p.1.function then Ok (p.0, aggs) else refuse AggregationRedefined line) else refuse Keys line) ≡ Ok r → IsPlaceOf name ks g aggs r.0 r.1
+        (if b then (if is_again g p.1.function then Ok (p.0, aggs) else refuse AggregationRedefined line) else refuse Keys line) ≡ Ok r → IsIndexOf name ks g aggs r.0 r.1
     again false d k = cc
     again true d k =
         let w = within AggregationRedefined line (is_again g p.1.function) (p.0, aggs) r k in
-        subst (λ (y : ℕ × Aggs). IsPlaceOf name ks g aggs y.0 y.1) w.1 (inr (p.1, e, kinds_are p.1.keys ks d, again_is g p.1.function w.0, refl))
+        subst (λ (y : ℕ × Aggs). IsIndexOf name ks g aggs y.0 y.1) w.1 (inr (p.1, e, kinds_are p.1.keys ks d, again_is g p.1.function w.0, refl))
 
-joined_sound : (b : Bool) (line : ℕ) (keys args : Typeds) (place : Result (ℕ × Aggs) Fault) (rows : Rows) (r : Action × (Rows × Aggs)) →
-    (if b then (place >>= λ a. Ok (Aggregate a.0 keys (first args), (rows, a.1))) else refuse Mismatch line) ≡ Ok r →
-    (b ≡ true) × (q : ℕ × Aggs) × (place ≡ Ok q) × ((Aggregate q.0 keys (first args), (rows, q.1)) ≡ r)
-joined_sound false line keys args place rows r h = cc
-joined_sound true line keys args place rows r h = let p = bound place _ _ h in (refl, p.0, p.1, ok_is _ _ p.2)
+joined_sound : (b : Bool) (line : ℕ) (keys args : Typeds) (index : Result (ℕ × Aggs) Fault) (rows : Rows) (r : Action × (Rows × Aggs)) →
+    (if b then (index >>= λ a. Ok (Aggregate a.0 keys (first args), (rows, a.1))) else refuse Mismatch line) ≡ Ok r →
+    (b ≡ true) × (q : ℕ × Aggs) × (index ≡ Ok q) × ((Aggregate q.0 keys (first args), (rows, q.1)) ≡ r)
+joined_sound false line keys args index rows r h = cc
+joined_sound true line keys args index rows r h = let p = bound index _ _ h in (refl, p.0, p.1, ok_is _ _ p.2)
 
 aggregates_sound : (line : ℕ) (name : List ℕ) (keys : Trees) (word : List ℕ) (args : Trees) (rows : Rows) (aggs : Aggs) (r : Action × (Rows × Aggs)) →
     aggregate line name keys word args rows aggs ≡ Ok r → Aggregates name keys word args rows aggs r.0 r.1.0 r.1.1
@@ -180,7 +180,7 @@ aggregates_sound line name keys word args rows aggs r h =
     let k = bound (wholes end rows keys) _ _ h in
     let g = bound (unless Undeclared line (aggregating_named word)) _ _ k.2 in
     let x = bound (wholes end k.0.1 args) _ _ g.2 in
-    let j = joined_sound (arguments_fit g.0 x.0.0) line k.0.0 x.0.0 (place_for line name k.0.0 (function g.0 args) aggs (find_from 0 name aggs)) x.0.1 r x.2 in
+    let j = joined_sound (arguments_fit g.0 x.0.0) line k.0.0 x.0.0 (index_for line name k.0.0 (function g.0 args) aggs (find_from 0 name aggs)) x.0.1 r x.2 in
     subst (λ (y : Action × (Rows × Aggs)). Aggregates name keys word args rows aggs y.0 y.1.0 y.1.1) j.3 (
       k.0.0,
       x.0.0,

@@ -83,7 +83,7 @@ by_length P z h hh l ll size (inr (inr (inr (inr (inr none))))) = absurd none
 
 -- the rest is read after this piece
 abbrev Reads : List Piece → Place → List ℕ → Piece → List ℕ → Type 0
-Reads done place text p rest = pieces_from done place (text ++ rest) ≡ pieces_from (done ++ p ∷ []) at.Outside rest
+Reads done index text p rest = pieces_from done index (text ++ rest) ≡ pieces_from (done ++ p ∷ []) at.Outside rest
 
 -- where no digit stands, nor a flag, and perhaps right after the percent sign
 abbrev ReadsEnd : List Piece → Flags → List ℕ → Letter → List ℕ → Type 0

@@ -35,7 +35,7 @@ either false x y z h = inr (refl, h)
 digit_is : (d : ℕ) → is_ascii_digit d ≡ true → IsInRange 48 57 d
 digit_is d h = let two = both_true (nat_le 48 d) (nat_le d 57) h in (leb-true 48 d two.0, leb-true d 57 two.1)
 
--- ---- what may follow at a place
+-- ---- what may follow at an index
 
 -- a length and a letter
 abbrev Closes : Flags → Piece → List ℕ → Type 0
@@ -67,7 +67,7 @@ Ends (at.Sized f) p text = (l : ℕ) × (k : Letter) × IsOneOf l (letters k) ×
 abbrev Fine : Place → Type 0
 Fine (at.Flagged f) = f.width ≡ 0
 Fine (at.Width f) = f.width ≤ 255
-Fine place = Unit {0}
+Fine index = Unit {0}
 
 -- a byte goes on with a piece, or ends it
 abbrev Steps : (Piece → List ℕ → Type 0) → ℕ → Place → Option Piece → Type 0
@@ -256,7 +256,7 @@ outside_step b q o h =
       | inr n ↦ ends_step (Ends at.Outside) b (piece.Byte b) q o (rw n.0 refl) n.1
     ]
 
-step : (place : Place) (b : ℕ) (q : Place) (o : Option Piece) → Fine place → turn place b ≡ Some (q, o) → Steps (Ends place) b q o
+step : (index : Place) (b : ℕ) (q : Place) (o : Option Piece) → Fine index → turn index b ≡ Some (q, o) → Steps (Ends index) b q o
 step at.Outside b q o fine h = outside_step b q o h
 step at.Opened b q o fine h = opened_step b q o h
 step (at.Flagged f) b q o fine h = flags_step f b q o fine h
@@ -265,12 +265,12 @@ step (at.Half f) b q o fine h = half_step f b q o h
 step (at.Long f) b q o fine h = long_step f b q o h
 step (at.Sized f) b q o fine h = sized_step f b q o h
 
--- the rest of a format from a place: nothing outside of conversions, or a piece that ends and those after it
+-- the rest of a format from an index: nothing outside of conversions, or a piece that ends and those after it
 abbrev From : Place → List Piece → List ℕ → Type 0
-From place ps rest =
-    ((place ≡ at.Outside) × (ps ≡ []) × (rest ≡ []))
+From index ps rest =
+    ((index ≡ at.Outside) × (ps ≡ []) × (rest ≡ []))
     ⊎ ((p : Piece) × (others : List Piece) × (text : List ℕ) × (later : List ℕ)
-    × (ps ≡ p ∷ others) × (rest ≡ text ++ later) × Ends place p text × SpellsFormat others later)
+    × (ps ≡ p ∷ others) × (rest ≡ text ++ later) × Ends index p text × SpellsFormat others later)
 
 from_outside : (ps : List Piece) (rest : List ℕ) → From at.Outside ps rest → SpellsFormat ps rest
 from_outside ps rest (inl h) = rw h.1 h.2
@@ -278,9 +278,9 @@ from_outside ps rest (inr h) = rw h.4 (h.2, h.3, h.6, h.7, h.5)
 
 -- the pieces after those that are done
 abbrev Later : List Piece → Place → List Piece → List ℕ → Type 0
-Later done place ps rest = (others : List Piece) × (ps ≡ done ++ others) × From place others rest
+Later done index ps rest = (others : List Piece) × (ps ≡ done ++ others) × From index others rest
 
-at_end : (done : List Piece) (place : Place) (ps : List Piece) → pieces_at_end place done ≡ Some ps → Later done place ps []
+at_end : (done : List Piece) (index : Place) (ps : List Piece) → pieces_at_end index done ≡ Some ps → Later done index ps []
 at_end done at.Outside ps h = let same : done ≡ ps = cc in ([], sym same ∙ sym (append-nil done), inl (refl, refl, refl))
 at_end done at.Opened ps h = cc
 at_end done (at.Flagged f) ps h = cc
@@ -293,31 +293,31 @@ is_provided : {A B : Type 0} (o : Option A) (go : A → Option B) (y : B) → op
 is_provided None go y h = cc
 is_provided (Some x) go y h = (x, refl, h)
 
--- a byte before what is spelled from the next place
-further : (done : List Piece) (place : Place) (b : ℕ) (bs : List ℕ) (ps : List Piece) (q : Place) (o : Option Piece) → Steps (Ends place) b q o →
-    Later (with_piece done o) q ps bs → Later done place ps (b ∷ bs)
-further done place b bs ps q o (inl s) (others, are, inl r) = absurd (true≢false (ap is_outside (sym r.0) ∙ s.1))
-further done place b bs ps q o (inl s) (others, are, inr r) = (
+-- a byte before what is spelled from the next index
+further : (done : List Piece) (index : Place) (b : ℕ) (bs : List ℕ) (ps : List Piece) (q : Place) (o : Option Piece) → Steps (Ends index) b q o →
+    Later (with_piece done o) q ps bs → Later done index ps (b ∷ bs)
+further done index b bs ps q o (inl s) (others, are, inl r) = absurd (true≢false (ap is_outside (sym r.0) ∙ s.1))
+further done index b bs ps q o (inl s) (others, are, inr r) = (
   others,
   are ∙ ap (λ e. with_piece done e ++ others) s.0,
   inr (r.0, r.1, b ∷ r.2, r.3, r.4, ap (λ rest. b ∷ rest) r.5, s.3 r.0 r.2 r.6, r.7),
 )
-further done place b bs ps q o (inr s) (others, are, from) = (
+further done index b bs ps q o (inr s) (others, are, from) = (
   s.0 ∷ others,
   are ∙ ap (λ e. with_piece done e ++ others) s.1 ∙ append_assoc done (s.0 ∷ []) others,
   inr (s.0, others, b ∷ [], bs, refl, refl, s.3, from_outside others bs (subst (λ at. From at others bs) s.2 from)),
 )
 
-fine_after : (place : Place) (b : ℕ) (q : Place) (o : Option Piece) → Steps (Ends place) b q o → Fine q
-fine_after place b q o (inl s) = s.2
-fine_after place b q o (inr s) = subst Fine (sym s.2) tt
+fine_after : (index : Place) (b : ℕ) (q : Place) (o : Option Piece) → Steps (Ends index) b q o → Fine q
+fine_after index b q o (inl s) = s.2
+fine_after index b q o (inr s) = subst Fine (sym s.2) tt
 
-later : (done : List Piece) (place : Place) (rest : List ℕ) (ps : List Piece) → Fine place → pieces_from done place rest ≡ Some ps → Later done place ps rest
-later done place [] ps fine h = at_end done place ps h
-later done place (b ∷ bs) ps fine h =
-    let t = is_provided (turn place b) _ ps h in
-    let s = step place b t.0.0 t.0.1 fine t.1 in
-    further done place b bs ps t.0.0 t.0.1 s (later (with_piece done t.0.1) t.0.0 bs ps (fine_after place b t.0.0 t.0.1 s) t.2)
+later : (done : List Piece) (index : Place) (rest : List ℕ) (ps : List Piece) → Fine index → pieces_from done index rest ≡ Some ps → Later done index ps rest
+later done index [] ps fine h = at_end done index ps h
+later done index (b ∷ bs) ps fine h =
+    let t = is_provided (turn index b) _ ps h in
+    let s = step index b t.0.0 t.0.1 fine t.1 in
+    further done index b bs ps t.0.0 t.0.1 s (later (with_piece done t.0.1) t.0.0 bs ps (fine_after index b t.0.0 t.0.1 s) t.2)
 
 pub read_is_spelled : (format : List ℕ) (ps : List Piece) → pieces format ≡ Some ps → SpellsFormat ps format
 read_is_spelled format ps h = let r = later [] at.Outside format ps tt h in rw r.1 (from_outside r.0 format r.2)

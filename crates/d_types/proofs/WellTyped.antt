@@ -118,23 +118,23 @@ Stands rows t a after = Evaluates rows t a after
 
 -- ---- aggregation statements
 
--- the place of an aggregation: new, or with the keys and the function that it had
-abbrev pub IsPlaceOf : List ℕ → Typeds → Option AggFn → Aggs → ℕ → Aggs → Type 0
-IsPlaceOf name ks g aggs place after =
+-- the index of an aggregation: new, or with the keys and the function that it had
+abbrev pub IsIndexOf : List ℕ → Typeds → Option AggFn → Aggs → ℕ → Aggs → Type 0
+IsIndexOf name ks g aggs index after =
     ((h : AggFn) × (find_from 0 name aggs ≡ None) × (nat_le (count ks) MAX_KEYS ≡ true)
-    × (g ≡ Some h) × (place ≡ length aggs)
+    × (g ≡ Some h) × (index ≡ length aggs)
     × (after ≡ aggs ++ record { name = name; keys = kinds_of_typed ks; function = h } ∷ []))
-    ⊎ ((known : Agg) × (find_from 0 name aggs ≡ Some (place, known))
+    ⊎ ((known : Agg) × (find_from 0 name aggs ≡ Some (index, known))
     × (known.keys ≡ kinds_of_typed ks) × (g ≡ Some known.function) × (after ≡ aggs))
 
 abbrev pub Aggregates : List ℕ → Trees → List ℕ → Trees → Rows → Aggs → Action → Rows → Aggs
     → Type 0
 Aggregates name keys word args rows aggs a after known =
-    (ks : Typeds) × (xs : Typeds) × (g : Aggregating) × (place : ℕ) × (mid : Rows)
+    (ks : Typeds) × (xs : Typeds) × (g : Aggregating) × (index : ℕ) × (mid : Rows)
     × AllTypes rows keys ks mid × (aggregating_named word ≡ Some g) × AllTypes mid args xs after
     × (arguments_fit g xs ≡ true)
-    × IsPlaceOf name ks (function g args) aggs place known
-    × (a ≡ Aggregate place ks (first xs))
+    × IsIndexOf name ks (function g args) aggs index known
+    × (a ≡ Aggregate index ks (first xs))
 
 -- ---- clauses and scripts
 

@@ -70,7 +70,7 @@ first (more x rest) = Some x
 
 -- ---- the aggregation
 
--- the place of an aggregation, in a list whose first place is n, and what it is
+-- the index of an aggregation, in a list whose first index is n, and what it is
 abbrev pub find_from : ℕ → List ℕ → Aggs → Option (ℕ × Agg)
 find_from n name [] = None
 find_from n name (a ∷ rest) =

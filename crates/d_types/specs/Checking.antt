@@ -217,13 +217,13 @@ abbrev pub appended : Agg → Checked ℕ
 appended a known answer =
     answer ≡ Ok (length known.aggs, record known { aggs = known.aggs ++ a ∷ [] })
 
--- the place of an aggregation: it is known, and has these keys and this function again; or it is
+-- the index of an aggregation: it is known, and has these keys and this function again; or it is
 -- new
 abbrev pub placed : ℕ → List ℕ → Typeds → Option AggFn → Option (ℕ × Agg) → Checked ℕ
-placed line name keys g (Some (place, a)) = do
+placed line name keys g (Some (index, a)) = do
   needs (λ known. a.keys ≡ kinds_of_typed keys) (TypeFault.Keys line)
   needs (λ known. g ≡ Some a.function) (TypeFault.AggregationRedefined line)
-  gives place
+  gives index
 placed line name keys g None = do
   needs (λ known. count keys ≤ MAX_KEYS) (TypeFault.Keys line)
   h ← by_rule (λ h. g ≡ Some h) (TypeFault.LquantizeBounds line)
@@ -235,8 +235,8 @@ aggregated line name keys word args = do
   g ← by_rule (λ g. aggregating_named word ≡ Some g) (TypeFault.Undeclared line)
   xs ← wholes args
   needs (λ known. arguments_fit g xs ≡ true) (TypeFault.Mismatch line)
-  place ← (λ known. placed line name ks (function g args) (find_from 0 name known.aggs) known)
-  gives (Aggregate place ks (first xs))
+  index ← (λ known. placed line name ks (function g args) (find_from 0 name known.aggs) known)
+  gives (Aggregate index ks (first xs))
 
 abbrev pub statement : StmtTree → Checked Action
 statement (StmtTree.Expression (Tree.Call line name args)) =

@@ -49,9 +49,9 @@ module _ {E Es : Type 0} (by : Evaluation E Es) where
       with (by.values arguments vars) (λ values. Has (Effect.Says (printf_text format values)))
   effect_by (Exit a) vars =
       with (number_outcome (by.value a vars)) (λ word. Has (Effect.Exits (word % 256)))
-  effect_by (Aggregate place keys argument) vars =
+  effect_by (Aggregate index keys argument) vars =
       with (by.key keys vars)
-      (λ key vars. with (argument_by argument vars) (λ z. Has (Effect.Adds place key z)))
+      (λ key vars. with (argument_by argument vars) (λ z. Has (Effect.Adds index key z)))
 
 -- ---- statements
 
@@ -92,7 +92,7 @@ texts_in (_ ∷ rest) = texts_in rest
 
 abbrev pub contributions_in : List Effect → List Contribution
 contributions_in [] = []
-contributions_in (Effect.Adds place key z ∷ rest) = contribution place key z ∷ contributions_in rest
+contributions_in (Effect.Adds index key z ∷ rest) = contribution index key z ∷ contributions_in rest
 contributions_in (_ ∷ rest) = contributions_in rest
 
 abbrev pub exit_in : List Effect → Option ℕ
@@ -100,11 +100,11 @@ exit_in [] = None
 exit_in (Effect.Exits status ∷ rest) = Some status
 exit_in (_ ∷ rest) = exit_in rest
 
--- the line that stands for a fault at the firing of this number in the clause at this place
+-- the line that stands for a fault at the firing of this number in the clause at this index
 abbrev pub fault_line : ℕ → ℕ → List ℕ
-fault_line number place =
+fault_line number index =
     codes "error: firing "
-    ++ (decimal number ++ (codes " clause " ++ (decimal place ++ codes ": divide-by-zero\n")))
+    ++ (decimal number ++ (codes " clause " ++ (decimal index ++ codes ": divide-by-zero\n")))
 
 -- a fault's line takes the place of all texts
 abbrev pub run_result : List ℕ → Ran → Made
@@ -149,7 +149,7 @@ module _ {E Es : Type 0} (by : Evaluation E Es) where
 
 -- ---- typed trees
 
--- a run of the clause at this place among the script's, from 1
+-- a run of the clause at this index among the script's, from 1
 abbrev pub run_of : Firing → ℕ → ClauseMeant → Variables → Made
-run_of f place clause vars =
-    run_by (by_trees f) (fault_line f.number place) clause.predicate clause.statements vars
+run_of f index clause vars =
+    run_by (by_trees f) (fault_line f.number index) clause.predicate clause.statements vars

@@ -1,5 +1,5 @@
 -- What statements ask of their expressions, whatever the types of the script's variables: kinds,
--- places and counts.
+-- indices and counts.
 use Rattle.std.specs.Prelude.{◌≡◌, ◌<◌, ◌≤◌, true, length, slice_get, All, Option, Some, None}
 use Rattle.d_types.specs.Vocabulary.{AggFn, MAX_KEYS}
 use Rattle.d_types.specs.Variables.{kinds_of_typed}
@@ -22,14 +22,14 @@ Suits (Some a) keys argument =
     (a.keys ≡ kinds_of_typed keys) × (count keys ≤ MAX_KEYS)
     × HasArgument a.function argument
 
--- each part is of the kind that its place asks for, and an aggregation is one of the script's
+-- each part is of the kind that its index asks for, and an aggregation is one of the script's
 abbrev pub IsProperAction : Aggs → Action → Type 0
 IsProperAction aggs (Evaluate x) = Unit {0}
 IsProperAction aggs (Trace x) = Unit {0}
 IsProperAction aggs (Print format args) = formats.fit format args ≡ true
 IsProperAction aggs (Exit x) = IsSomeInteger (type_of x)
-IsProperAction aggs (Aggregate place keys argument) =
-    (place < length aggs) × Suits (slice_get aggs place) keys argument
+IsProperAction aggs (Aggregate index keys argument) =
+    (index < length aggs) × Suits (slice_get aggs index) keys argument
 
 abbrev pub IsProperPredicate : Option Typed → Type 0
 IsProperPredicate None = Unit {0}

@@ -40,7 +40,7 @@ in_action (Evaluate x) = place_count x
 in_action (Trace x) = place_count x
 in_action (Print format args) = place_count_in args
 in_action (Exit x) = place_count x
-in_action (Aggregate place keys argument) = place_count_in keys + in_option argument
+in_action (Aggregate index keys argument) = place_count_in keys + in_option argument
 
 abbrev pub description_count : ClauseMeant → ℕ
 description_count c = length c.descriptions

@@ -105,7 +105,7 @@ pub data ActionOf (E Es : Type 0) : Type 0 where
   Trace : E → ActionOf E Es
   Print : List Piece → Es → ActionOf E Es
   Exit : E → ActionOf E Es
-  Aggregate : (place : ℕ) (keys : Es) (argument : Option E) → ActionOf E Es
+  Aggregate : (index : ℕ) (keys : Es) (argument : Option E) → ActionOf E Es
 
 abbrev pub Action : Type 0
 Action = ActionOf Typed Typeds
@@ -153,8 +153,8 @@ action_of (TypedStmt.Evaluate a) = Evaluate (typed_of a)
 action_of (TypedStmt.Trace a) = Trace (typed_of a)
 action_of (TypedStmt.Print format arguments) = Print format.items (typeds_of arguments.items)
 action_of (TypedStmt.Exit a) = Exit (typed_of a)
-action_of (TypedStmt.Aggregate place keys argument) =
-    Aggregate place (typeds_of keys.items) (typed_argument argument)
+action_of (TypedStmt.Aggregate index keys argument) =
+    Aggregate index (typeds_of keys.items) (typed_argument argument)
 
 abbrev pub actions_of : List TypedStmt → List Action
 actions_of all = map action_of all

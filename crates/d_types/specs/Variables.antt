@@ -15,7 +15,7 @@ pub record Row : Type 0 where
   pub keys : List Kind
   pub holds : Option DType
 
--- the variables so far: a variable's slot is its place
+-- the variables so far: a variable's slot is its index
 abbrev pub Rows : Type 0
 Rows = List Row
 

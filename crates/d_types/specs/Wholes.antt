@@ -16,7 +16,7 @@ ActionIs Is (Evaluate x) = Is x
 ActionIs Is (Trace x) = Is x
 ActionIs Is (Print format args) = EachIs Is args
 ActionIs Is (Exit x) = Is x
-ActionIs Is (Aggregate place keys argument) = EachIs Is keys × AnyIs Is argument
+ActionIs Is (Aggregate index keys argument) = EachIs Is keys × AnyIs Is argument
 
 abbrev pub ActionsAre : (Typed → Type 0) → List Action → Type 0
 ActionsAre Is [] = Unit {0}

@@ -199,14 +199,14 @@ fn first(args: Vec<TypedExpr>) -> Option<TypedExpr>
     args.into_iter().next()
 }
 
-/// The place of an aggregation, and what it is.
+/// The index of an aggregation, and what it is.
 fn find<'a>(aggs: &'a [TypedAggregation], name: &[u8]) -> Option<(usize, &'a TypedAggregation)>
     ensures { option_map (λ p. (p.0, agg_of p.1.now)) result
         ≡ spec.find_from 0 name.now (aggs_of aggs.now) }
 {
-    for (place, aggregation) in aggs.iter().enumerate() {
+    for (index, aggregation) in aggs.iter().enumerate() {
         if aggregation.name.as_slice() == name {
-            return Some((place, aggregation));
+            return Some((index, aggregation));
         }
     }
     None
@@ -222,27 +222,27 @@ struct AggregationUse<'a> {
     function: Option<AggFn>,
 }
 
-fn known_place(
-    place: usize,
+fn known_index(
+    index: usize,
     known: &TypedAggregation,
     usage: AggregationUse<'_>,
 ) -> Result<usize, TypeFault>
     ensures { (aggs : Aggs) → Gives (λ p. (p, aggs)) result
-        (steps.place_for usage.entry.line usage.entry.name.now
+        (steps.index_for usage.entry.line usage.entry.name.now
         (typeds_of usage.entry.keys.now) usage.entry.function aggs
-        (Some (place, agg_of known.now))) }
+        (Some (index, agg_of known.now))) }
 {
     let line = usage.line;
     if !fit(&known.keys, usage.keys) {
         Err(TypeFault::Keys { line })
     } else if is_again(usage.function, known.function) {
-        Ok(place)
+        Ok(index)
     } else {
         Err(TypeFault::AggregationRedefined { line })
     }
 }
 
-// A new aggregation, and its place.
+// A new aggregation, and its index.
 fn define(
     alloc: Global,
     aggs: &mut Vec<TypedAggregation>,
@@ -250,7 +250,7 @@ fn define(
     keys: &[TypedExpr],
     function: AggFn,
 ) -> Result<usize, TypeFault>
-    ensures place { IfOk result (λ place. place ≡ length (aggs_of aggs.old.items)) }
+    ensures index { IfOk result (λ index. index ≡ length (aggs_of aggs.old.items)) }
     ensures added { OnOk result (aggs_of aggs.new.items ≡ aggs_of aggs.old.items
         ++ record {
           name = name.now;
@@ -260,7 +260,7 @@ fn define(
         ∷ []) }
     ensures err { OnlyMemory result }
 {
-    let place = aggs.len();
+    let index = aggs.len();
     let name = copy_of(alloc, name)?;
     let keys = kinds_of(alloc, keys)?;
     aggs.push(TypedAggregation {
@@ -268,16 +268,16 @@ fn define(
         keys,
         function,
     })?;
-    Ok(place)
+    Ok(index)
 }
 
-fn new_place(
+fn new_index(
     alloc: Global,
     aggs: &mut Vec<TypedAggregation>,
     usage: AggregationUse<'_>,
 ) -> Result<usize, TypeFault>
-    ensures { Gives (λ place. (place, aggs_of aggs.new.items)) result
-        (steps.place_for usage.entry.line usage.entry.name.now
+    ensures { Gives (λ index. (index, aggs_of aggs.new.items)) result
+        (steps.index_for usage.entry.line usage.entry.name.now
         (typeds_of usage.entry.keys.now) usage.entry.function
         (aggs_of aggs.old.items) None) }
 {
@@ -292,20 +292,20 @@ fn new_place(
     }
 }
 
-/// The place of an aggregation. The first statement fixes its keys and its function.
-fn place_for(
+/// The index of an aggregation. The first statement fixes its keys and its function.
+fn index_for(
     alloc: Global,
     aggs: &mut Vec<TypedAggregation>,
     usage: AggregationUse<'_>,
 ) -> Result<usize, TypeFault>
-    ensures { Gives (λ place. (place, aggs_of aggs.new.items)) result
-        (steps.place_for usage.entry.line usage.entry.name.now
+    ensures { Gives (λ index. (index, aggs_of aggs.new.items)) result
+        (steps.index_for usage.entry.line usage.entry.name.now
         (typeds_of usage.entry.keys.now) usage.entry.function
         (aggs_of aggs.old.items) (spec.find_from 0 usage.entry.name.now (aggs_of aggs.old.items))) }
 {
     match find(aggs, usage.name.as_slice()) {
-        Some((place, known)) => known_place(place, known, usage),
-        None => new_place(alloc, aggs, usage),
+        Some((index, known)) => known_index(index, known, usage),
+        None => new_index(alloc, aggs, usage),
     }
 }
 
@@ -349,6 +349,6 @@ pub(crate) fn aggregate(
         keys: &keys,
         function: function_of(aggregating, written.arguments),
     };
-    let place = place_for(alloc, aggs, usage)?;
-    Ok(TypedStmt::Aggregate(place, keys, first(values)))
+    let index = index_for(alloc, aggs, usage)?;
+    Ok(TypedStmt::Aggregate(index, keys, first(values)))
 }

@@ -9,7 +9,7 @@ pub enum Effect {
     Nothing,
     /// `trace` and `printf`: a text.
     Says(Text),
-    /// An aggregation statement: the aggregation's place, the key, and what its function is given.
+    /// An aggregation statement: the aggregation's index, the key, and what its function is given.
     Adds(usize, Key, i64),
     /// `exit`: the status.
     Exits(u8),

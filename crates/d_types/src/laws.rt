@@ -24,7 +24,7 @@ pub fn six_registers()
     ensures { (m : ScriptMeant) → ∥ IsMeant m ∥₁ → ScriptFits m }
 {}
 
-/// A typed script has at most 65,536 descriptions, as many statements, and as many places of
+/// A typed script has at most 65,536 descriptions, as many statements, and as many indices of
 /// variables, all clauses together.
 pub fn sizes_kept()
     ensures { (m : ScriptMeant) → ∥ IsMeant m ∥₁ → HasAtMost MAX_BYTES m }
@@ -41,8 +41,8 @@ pub fn statements_are_proper()
 /// clause. In a typed script at most 2^32 statements run at one firing, where each clause runs once
 /// for each of its descriptions.
 pub fn contributions_are_few()
-    ensures run { (f : Firing) (place : ℕ) (clause : ClauseMeant) (vars : Variables)
-        → length (run_of f place clause vars).contributions ≤ length clause.statements }
+    ensures run { (f : Firing) (index : ℕ) (clause : ClauseMeant) (vars : Variables)
+        → length (run_of f index clause vars).contributions ≤ length clause.statements }
     ensures firing { (m : ScriptMeant) → ∥ IsMeant m ∥₁ → in_all most_runs m.clauses ≤ 2 ^ 32 }
 {}
 

@@ -38,9 +38,9 @@ pub fn values_are_of_their_types()
 /// do so before anything was assigned to it. The built-ins of a firing, of a row and of BEGIN and
 /// END, are values of their types.
 pub fn variables_keep_their_types()
-    ensures run { (slots : Slots) (f : Firing) (place : ℕ) (clause : ClauseMeant) (vars : Variables)
+    ensures run { (slots : Slots) (f : Firing) (index : ℕ) (clause : ClauseMeant) (vars : Variables)
         → HasTypedBuiltIns f → ClauseIs (IsConsistent slots) clause → AreTyped slots vars
-        → AreTyped slots (run_of f place clause vars).variables }
+        → AreTyped slots (run_of f index clause vars).variables }
     ensures locals { (slots : Slots) → AreTypedLocals slots (λ var. blank var.kind) }
     ensures own { (slots : Slots) → AreTypedOwn slots (λ var key. blank var.kind) }
     ensures firing { (f : Firing) → HasRanges f → HasTypedBuiltIns f }

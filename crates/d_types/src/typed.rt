@@ -40,12 +40,12 @@ pub enum Space {
     Clause,
 }
 
-/// A variable: its place among the script's variables, and the type of its values.
+/// A variable: its index among the script's variables, and the type of its values.
 #[derive(Clone, Copy, Debug, PartialEq, Eq)]
 pub struct Variable {
     /// Which variables it is one of.
     pub space: Space,
-    /// Its place among the script's variables.
+    /// Its index among the script's variables.
     pub slot: u16,
     /// The type of its values.
     pub holds: DType,
@@ -154,7 +154,7 @@ pub enum TypedStmt {
     Print(Vec<Piece>, Vec<TypedExpr>),
     /// `exit(status)`
     Exit(TypedExpr),
-    /// `@name[keys] = function(argument)`: the aggregation's place, its keys, and what its function
+    /// `@name[keys] = function(argument)`: the aggregation's index, its keys, and what its function
     /// takes, if any.
     Aggregate(usize, Vec<TypedExpr>, Option<TypedExpr>),
 }

@@ -1,4 +1,4 @@
 -- What private functions alone say of their steps. No contract for callers rests on these
 -- definitions.
 pub mod Tables
-pub mod Places
+pub mod Indices

@@ -32,7 +32,7 @@ UINT64 = record { width = 64; signed = false; known = refl }
 abbrev pub promoted_of : IntType → IntType
 promoted_of t = if nat_lt t.width 32 then INT32 else t
 
--- the place of a promoted type among int, unsigned int, long, unsigned long
+-- the index of a promoted type among int, unsigned int, long, unsigned long
 abbrev pub type_rank : IntType → ℕ
 type_rank t = 2 * t.width + (if t.signed then 0 else 1)
 

@@ -11,6 +11,6 @@ pub fn split_at_first(bytes: &[u8], mark: u8) -> Option<(&[u8], &[u8])>
     ensures { MatchOption result (All (λ b. b ≢ mark) bytes.now)
         (λ p. All (λ b. b ≢ mark) p.0.now × (bytes.now ≡ p.0.now ++ mark ∷ p.1.now)) }
 {
-    let place = bytes.iter().position(|b| *b == mark)?;
-    Some((&bytes[..place], &bytes[place + 1..]))
+    let index = bytes.iter().position(|b| *b == mark)?;
+    Some((&bytes[..index], &bytes[index + 1..]))
 }

@@ -3,7 +3,7 @@
 ghost use Rattle.std.specs.Prelude.{◌≡◌, MatchOption, None, Some, true, unwrap_or, IfOk};
 ghost use Rattle.std.specs.Prelude.{IfSome, OnErr, OnOk};
 ghost use Rattle.indexmap.specs.IndexMap.{get, Updates};
-ghost use Rattle.d_values.specs.{Keys.same_key, Steps.Places.IsKeyAt};
+ghost use Rattle.d_values.specs.{Keys.same_key, Steps.Indices.IsKeyAt};
 ghost use Rattle.d_values.specs.Stores.{blank, value_to_keep, lent_value};
 
 use crate::key::{Key, copy_in_room};

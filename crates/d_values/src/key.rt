@@ -236,11 +236,11 @@ impl Key {
     /// key.set_number(0, 8);
     /// key.parts(); // [KeyPart::Number(8)]
     /// ```
-    pub fn set_number(&mut self, place: usize, number: i64)
-        requires { place < length self.old }
-        ensures { self.new ≡ slice_set self.old place (KeyPart.Number number) }
+    pub fn set_number(&mut self, index: usize, number: i64)
+        requires { index < length self.old }
+        ensures { self.new ≡ slice_set self.old index (KeyPart.Number number) }
     {
-        self.parts[place] = KeyPart::Number(number);
+        self.parts[index] = KeyPart::Number(number);
     }
 
     /// Puts a text in the place of a part, in the room of the text that was there.
@@ -250,13 +250,13 @@ impl Key {
     /// key.set_name(0, b"cat")?;
     /// key.parts(); // the text `cat`
     /// ```
-    pub fn set_name(&mut self, place: usize, bytes: &[u8]) -> Result<(), AllocError>
-        requires { place < length self.old }
-        ensures ok { OnOk result (self.new ≡ slice_set self.old place (KeyPart.Name bytes.now)) }
+    pub fn set_name(&mut self, index: usize, bytes: &[u8]) -> Result<(), AllocError>
+        requires { index < length self.old }
+        ensures ok { OnOk result (self.new ≡ slice_set self.old index (KeyPart.Name bytes.now)) }
         ensures err { OnErr result (self.new ≡ self.old) }
     {
         let alloc = *self.parts.allocator();
-        self.parts[place].set_name(alloc, bytes)
+        self.parts[index].set_name(alloc, bytes)
     }
 }
 
@@ -278,8 +278,8 @@ fn copy_parts(room: &mut Vec<KeyPart>, parts: &[KeyPart]) -> Result<(), AllocErr
     ensures { OnOk result (room.new.items ≡ parts.now) }
 {
     let alloc = *room.allocator();
-    for (place, part) in parts.iter().enumerate() {
-        room[place].assign(alloc, part)?;
+    for (index, part) in parts.iter().enumerate() {
+        room[index].assign(alloc, part)?;
     }
     Ok(())
 }
@@ -322,8 +322,8 @@ fn are_same(a: &[KeyPart], b: &[KeyPart]) -> bool
     if a.len() != b.len() {
         return false;
     }
-    for place in 0..a.len() {
-        if a[place] != b[place] {
+    for index in 0..a.len() {
+        if a[index] != b[index] {
             return false;
         }
     }

@@ -3,7 +3,7 @@
 ghost use Rattle.std.specs.Prelude.{◌≡◌, None, true, MatchOption};
 ghost use Rattle.indexmap.specs.IndexMap.{get};
 ghost use Rattle.d_values.specs.{Variables.same_var};
-ghost use Rattle.d_values.specs.Steps.Places.{IsVarAt};
+ghost use Rattle.d_values.specs.Steps.Indices.{IsVarAt};
 
 use crate::variable::Var;
 use indexmap::IndexMap;

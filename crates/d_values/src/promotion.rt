@@ -16,7 +16,7 @@ pub fn promotion_of(t: IntType) -> IntType
     if t.width < 32 { IntType::INT32 } else { t }
 }
 
-// The place of a promoted type among int, unsigned int, long, unsigned long.
+// The index of a promoted type among int, unsigned int, long, unsigned long.
 fn rank(t: IntType) -> u8
     ensures { result ≡ type_rank t }
 {

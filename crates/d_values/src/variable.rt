@@ -13,7 +13,7 @@ use std::hash::{Hash, Hasher};
 /// different kinds are different.
 #[derive(Clone, Copy, Debug)]
 pub struct Var {
-    /// Its place.
+    /// Its index.
     pub slot: u16,
     /// What it holds.
     pub kind: Kind,

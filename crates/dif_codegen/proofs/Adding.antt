@@ -30,8 +30,8 @@ use Rattle.dif_codegen.specs.Steps.Pieces.{choice_code, next}
 ends : {A : Type 0} (x y z p q : List A) → y ≡ x ++ p → z ≡ y ++ q → z ≡ x ++ (p ++ q)
 ends x y z p q e f = f ∙ ap (λ l. l ++ q) e ∙ append_assoc x p q
 
-place_is : (pl pl' : Place) → pl.at ≡ pl'.at → pl.texts ≡ pl'.texts → pl.numbers ≡ pl'.numbers → pl ≡ pl'
-place_is pl pl' a b c = ap (λ n. record { at = n; texts = pl.texts; numbers = pl.numbers }) a ∙ ap (λ n. record { at = pl'.at; texts = n; numbers = pl.numbers }) b ∙ ap (λ n. record { at = pl'.at; texts = pl'.texts; numbers = n }) c
+index_is : (pl pl' : Place) → pl.at ≡ pl'.at → pl.texts ≡ pl'.texts → pl.numbers ≡ pl'.numbers → pl ≡ pl'
+index_is pl pl' a b c = ap (λ n. record { at = n; texts = pl.texts; numbers = pl.numbers }) a ∙ ap (λ n. record { at = pl'.at; texts = n; numbers = pl.numbers }) b ∙ ap (λ n. record { at = pl'.at; texts = pl'.texts; numbers = n }) c
 
 grown : {A : Type 0} (x y p : List A) → y ≡ x ++ p → length y ≡ length x + length p
 grown x y p e = ap length e ∙ length-append x p
@@ -39,7 +39,7 @@ grown x y p e = ap length e ∙ length-append x p
 moved : (g : Maker) (a b : Difo) → Adds g a b → end_of_draft b ≡ past (end_of_draft a) (g (end_of_draft a))
 moved g a b h =
     let p = g (end_of_draft a) in
-    place_is (end_of_draft b) (past (end_of_draft a) p) (grown a.code.items b.code.items p.code h.code) (grown a.texts.items b.texts.items p.texts h.texts) (grown a.numbers.items b.numbers.items p.numbers h.numbers)
+    index_is (end_of_draft b) (past (end_of_draft a) p) (grown a.code.items b.code.items p.code h.code) (grown a.texts.items b.texts.items p.texts h.texts) (grown a.numbers.items b.numbers.items p.numbers h.numbers)
 
 pub both_adds : (g h : Maker) (a b c : Difo) → Adds g a b → Adds h b c → Adds (both g h) a c
 both_adds g h a b c u v =
@@ -61,7 +61,7 @@ operands_adds g h k a b c u v =
     let pl2 = past pl1 q in
     let e : end_of_draft b ≡ pl2 =
     moved (both g h) a b u
-    ∙ place_is (past pl ((both g h) pl)) pl2 (omega (arith, length-append p.code q.code)) (omega (arith, length-append p.texts q.texts)) (omega (arith, length-append p.numbers q.numbers)) in
+    ∙ index_is (past pl ((both g h) pl)) pl2 (omega (arith, length-append p.code q.code)) (omega (arith, length-append p.texts q.texts)) (omega (arith, length-append p.numbers q.numbers)) in
     record {
       code = ends _ _ _ _ _ u.code (v.code ∙ ap (λ pl. b.code.items ++ (k pl).code) e) ∙ ap (λ l. a.code.items ++ l) (append_assoc p.code q.code (k pl2).code);
       texts = ends _ _ _ _ _ u.texts (v.texts ∙ ap (λ pl. b.texts.items ++ (k pl).texts) e) ∙ ap (λ l. a.texts.items ++ l) (append_assoc p.texts q.texts (k pl2).texts);
@@ -82,14 +82,14 @@ pub fork_adds : (condition : Condition) (g h : Maker) (a b c d e z : Difo) (bran
 fork_adds condition g h a b c d e z branch jump s0 u v s1 w x closed =
     let pl = end_of_draft a in
     let pl1 = next pl in
-    let eb : end_of_draft b ≡ pl1 = moved (one_instr (Branch condition 0)) a b u ∙ place_is _ _ refl (omega arith) (omega arith) in
+    let eb : end_of_draft b ≡ pl1 = moved (one_instr (Branch condition 0)) a b u ∙ index_is _ _ refl (omega arith) (omega arith) in
     let p = g pl1 in
     let vc : c.code.items ≡ b.code.items ++ p.code = v.code ∙ ap (λ q. b.code.items ++ (g q).code) eb in
     let vt : c.texts.items ≡ b.texts.items ++ p.texts = v.texts ∙ ap (λ q. b.texts.items ++ (g q).texts) eb in
     let vn : c.numbers.items ≡ b.numbers.items ++ p.numbers = v.numbers ∙ ap (λ q. b.numbers.items ++ (g q).numbers) eb in
     let ec : end_of_draft c ≡ past pl1 p = moved g b c v ∙ ap (λ q. past q (g q)) eb in
     let pl3 = next (past pl1 p) in
-    let ed : end_of_draft d ≡ pl3 = moved (one_instr (Ba 0)) c d w ∙ place_is _ (next (end_of_draft c)) refl (omega arith) (omega arith) ∙ ap next ec in
+    let ed : end_of_draft d ≡ pl3 = moved (one_instr (Ba 0)) c d w ∙ index_is _ (next (end_of_draft c)) refl (omega arith) (omega arith) ∙ ap next ec in
     let q = h pl3 in
     let xc : e.code.items ≡ d.code.items ++ q.code = x.code ∙ ap (λ r. d.code.items ++ (h r).code) ed in
     let xt : e.texts.items ≡ d.texts.items ++ q.texts = x.texts ∙ ap (λ r. d.texts.items ++ (h r).texts) ed in
@@ -194,9 +194,9 @@ pub drafted : (e : Typed) (a b c : Difo) → a.code.items ≡ [] → a.texts.ite
 drafted e a b c ec et en u v =
     let h = both_adds (code_of e 1) (one_instr (Ret R1)) a b c u v in
     let pl : Place = record { at = 0; texts = 0; numbers = 0 } in
-    let place : end_of_draft a ≡ pl = place_is (end_of_draft a) pl (ap length ec) (ap length et) (ap length en) in
+    let index : end_of_draft a ≡ pl = index_is (end_of_draft a) pl (ap length ec) (ap length et) (ap length en) in
     record {
-      code = h.code ∙ ap (λ l. l ++ (both (code_of e 1) (one_instr (Ret R1)) (end_of_draft a)).code) ec ∙ ap (λ p. (both (code_of e 1) (one_instr (Ret R1)) p).code) place;
-      texts = h.texts ∙ ap (λ l. l ++ (both (code_of e 1) (one_instr (Ret R1)) (end_of_draft a)).texts) et ∙ ap (λ p. (both (code_of e 1) (one_instr (Ret R1)) p).texts) place;
-      numbers = h.numbers ∙ ap (λ l. l ++ (both (code_of e 1) (one_instr (Ret R1)) (end_of_draft a)).numbers) en ∙ ap (λ p. (both (code_of e 1) (one_instr (Ret R1)) p).numbers) place;
+      code = h.code ∙ ap (λ l. l ++ (both (code_of e 1) (one_instr (Ret R1)) (end_of_draft a)).code) ec ∙ ap (λ p. (both (code_of e 1) (one_instr (Ret R1)) p).code) index;
+      texts = h.texts ∙ ap (λ l. l ++ (both (code_of e 1) (one_instr (Ret R1)) (end_of_draft a)).texts) et ∙ ap (λ p. (both (code_of e 1) (one_instr (Ret R1)) p).texts) index;
+      numbers = h.numbers ∙ ap (λ l. l ++ (both (code_of e 1) (one_instr (Ret R1)) (end_of_draft a)).numbers) en ∙ ap (λ p. (both (code_of e 1) (one_instr (Ret R1)) p).numbers) index;
     }

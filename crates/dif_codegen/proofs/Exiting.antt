@@ -12,13 +12,13 @@ use Rattle.dif_codegen.specs.Correct.{IsActionOf}
 use Rattle.dif_codegen.specs.Meaning.{IsSameClause, IsProgramOf, code_exits}
 use Rattle.dif_codegen.specs.Programs.{ActionCode, action_code, clause_code}
 
--- the place of the aggregation that a statement adds to, if any
+-- the index of the aggregation that a statement adds to, if any
 abbrev pub aggregation_of : {E Es : Type 0} → ActionOf E Es → Option ℕ
 aggregation_of (Evaluate x) = None
 aggregation_of (Trace x) = None
 aggregation_of (Print format arguments) = None
 aggregation_of (Exit x) = None
-aggregation_of (Aggregate place keys argument) = Some place
+aggregation_of (Aggregate index keys argument) = Some index
 
 module _ (slots : Slots) where
   action_exits : (x : ActionCode) (a : Action) → IsActionOf slots x a → is_exit x ≡ is_exit a
@@ -26,7 +26,7 @@ module _ (slots : Slots) where
   action_exits (Trace x) (Trace e) h = refl
   action_exits (Print format xs) (Print written es) h = refl
   action_exits (Exit x) (Exit e) h = refl
-  action_exits (Aggregate place xs x) (Aggregate n es e) h = refl
+  action_exits (Aggregate index xs x) (Aggregate n es e) h = refl
   action_exits (Evaluate x) (Trace e) h = absurd h
   action_exits (Evaluate x) (Print written es) h = absurd h
   action_exits (Evaluate x) (Exit e) h = absurd h
@@ -43,21 +43,21 @@ module _ (slots : Slots) where
   action_exits (Exit x) (Trace e) h = absurd h
   action_exits (Exit x) (Print written es) h = absurd h
   action_exits (Exit x) (Aggregate n es e) h = absurd h
-  action_exits (Aggregate place xs x) (Evaluate e) h = absurd h
-  action_exits (Aggregate place xs x) (Trace e) h = absurd h
-  action_exits (Aggregate place xs x) (Print written es) h = absurd h
-  action_exits (Aggregate place xs x) (Exit e) h = absurd h
+  action_exits (Aggregate index xs x) (Evaluate e) h = absurd h
+  action_exits (Aggregate index xs x) (Trace e) h = absurd h
+  action_exits (Aggregate index xs x) (Print written es) h = absurd h
+  action_exits (Aggregate index xs x) (Exit e) h = absurd h
 
   same_aggregation : (x : ActionCode) (a : Action) → IsActionOf slots x a → aggregation_of x ≡ aggregation_of a
   same_aggregation (Evaluate x) (Evaluate e) h = refl
   same_aggregation (Trace x) (Trace e) h = refl
   same_aggregation (Print format xs) (Print written es) h = refl
   same_aggregation (Exit x) (Exit e) h = refl
-  same_aggregation (Aggregate place xs x) (Aggregate n es e) h = ap Some h.0
-  same_aggregation (Aggregate place xs x) (Evaluate e) h = absurd h
-  same_aggregation (Aggregate place xs x) (Trace e) h = absurd h
-  same_aggregation (Aggregate place xs x) (Print written es) h = absurd h
-  same_aggregation (Aggregate place xs x) (Exit e) h = absurd h
+  same_aggregation (Aggregate index xs x) (Aggregate n es e) h = ap Some h.0
+  same_aggregation (Aggregate index xs x) (Evaluate e) h = absurd h
+  same_aggregation (Aggregate index xs x) (Trace e) h = absurd h
+  same_aggregation (Aggregate index xs x) (Print written es) h = absurd h
+  same_aggregation (Aggregate index xs x) (Exit e) h = absurd h
   same_aggregation (Evaluate x) (Aggregate n es e) h = absurd h
   same_aggregation (Trace x) (Aggregate n es e) h = absurd h
   same_aggregation (Print format xs) (Aggregate n es e) h = absurd h

@@ -26,7 +26,7 @@ use Rattle.dif_validate.specs.declared.instruction.Instr.TheVariants.{Mov, Flush
 use Rattle.dif_validate.specs.Objects.{Object}
 use Rattle.dif_validate.specs.Registers.{at}
 use Rattle.dif_machine.specs.Frames.{Frame}
-use Rattle.dif_machine.specs.Frames.{at_place, with_value, with_tuple}
+use Rattle.dif_machine.specs.Frames.{at_index, with_value, with_tuple}
 use Rattle.dif_machine.specs.Runs.{End, Divides, Reaches, goes}
 use Rattle.dif_machine.specs.Sources as machine
 use Rattle.dif_machine.specs.Semantics as st
@@ -163,7 +163,7 @@ module _ (o : Object) (f : Firing) where
       let after = stands_back o pl p (both (one_instr i) (one_instr Flushts) pl1) stands in
       let size : pl1.at + 2 ≡ pl.at + length (element_code (more k ks) r i pl).code = omega (arith, length-append p.code (i ∷ Flushts ∷ [])) in
       λ last c. pushes_on (more k ks) r pl s vars key [] few (omega arith) there ready.empty e (stands_front o pl p (both (one_instr i) (one_instr Flushts) pl1) stands) last
-      (λ t1 place same tup.
+      (λ t1 index same tup.
       let t2 = with_value t1 (register q) v in
       let t3 = with_tuple t2 [] in
       let long : length t1.registers ≡ 8 = ap length same ∙ ready.long in
@@ -174,7 +174,7 @@ module _ (o : Object) (f : Firing) where
       ap (λ l. st.on_key l (st.puts t1 (register q) (machine.own_value vars x l) vars)) tup
       ∙ on_key_is key there.1 (part_of there.0) (st.puts t1 (register q) (machine.own_value vars x key) vars) there.4
       ∙ ap (λ v. st.puts t1 (register q) v vars) (kept_kind t v is) in
-      goes t2 vars (step o f t1 vars pl1.at i place after.code.0 ∙ read)
+      goes t2 vars (step o f t1 vars pl1.at i index after.code.0 ∙ read)
       (goes t3 vars (step o f t2 vars (pl1.at + 1) Flushts n1 after.code.1.0)
       (c t3 (record { at = n2; value = d.value; kept = λ k less. d.kept k less ∙ ap (λ xs. slice_index_or xs k None) same; long = d.long; tuple = sym ready.empty }))))
 
@@ -198,8 +198,8 @@ module _ (o : Object) (f : Firing) where
       let after = stands_back o pl p (both (one_instr i) (one_instr Flushts) pl1) stands in
       let size : pl1.at + 2 ≡ pl.at + length (element_code (more k ks) r i pl).code = omega (arith, length-append p.code (i ∷ Flushts ∷ [])) in
       λ last c. pushes_on (more k ks) r pl s vars key [] few (omega arith) there ready.empty e (stands_front o pl p (both (one_instr i) (one_instr Flushts) pl1) stands) last
-      (λ t1 place same tup.
-      let t2 = at_place t1 (t1.pc + 1) in
+      (λ t1 index same tup.
+      let t2 = at_index t1 (t1.pc + 1) in
       let t3 = with_tuple t2 [] in
       let n1 : t1.pc + 1 ≡ pl1.at + 1 = omega arith in
       let n2 : t1.pc + 1 + 1 ≡ pl.at + length (element_code (more k ks) r i pl).code = omega arith in
@@ -209,7 +209,7 @@ module _ (o : Object) (f : Firing) where
       ∙ ap (λ y. st.on_kind (kind_of_type t) y (st.store_own t1 vars x key)) (at_is t1.registers q le ∙ ap (λ xs. slice_index_or xs q None) same ∙ val)
       ∙ on_kind_is t v (st.store_own t1 vars x key) is
       ∙ ap (λ y. st.store_own t1 vars x key y) (sym (stored_kind t v is)) in
-      goes t2 new (step o f t1 vars pl1.at i place after.code.0 ∙ wrote)
+      goes t2 new (step o f t1 vars pl1.at i index after.code.0 ∙ wrote)
       (goes t3 new (step o f t2 new (pl1.at + 1) Flushts n1 after.code.1.0)
       (c t3 (record { at = n2; value = ap (λ xs. slice_index_or xs q None) same ∙ val; kept = λ k less. ap (λ xs. slice_index_or xs k None) same; long = ap length same ∙ ready.long; tuple = sym ready.empty }))))
 

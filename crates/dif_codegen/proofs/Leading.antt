@@ -24,7 +24,7 @@ use Rattle.dif_validate.specs.Objects.{Object}
 use Rattle.dif_validate.specs.Registers.{at}
 use Rattle.dif_machine.specs.declared.comparing.Comparison.{Comparison}
 use Rattle.dif_machine.specs.Frames.{Frame}
-use Rattle.dif_machine.specs.Frames.{at_place, with_value, with_comparison}
+use Rattle.dif_machine.specs.Frames.{at_index, with_value, with_comparison}
 use Rattle.dif_machine.specs.Operators.{result_of, holds}
 use Rattle.dif_machine.specs.Runs.{End, Divides, Reaches, faults, goes}
 use Rattle.d_types.specs.Storage as storage
@@ -83,7 +83,7 @@ module _ (o : Object) (f : Firing) where
   pub step : (s : Frame) (vars : storage.Variables) (pc : ℕ) (i : Instr) → s.pc ≡ pc → slice_get o.code pc ≡ Some i → st.step_of o f s vars ≡ st.act i o f s vars
   step s vars pc i e h = ap (λ x. st.on x (λ i. st.act i o f s vars)) (ap (slice_get o.code) e ∙ h)
 
-  -- the place at the end, under another name
+  -- the index at the end, under another name
   pub ends_at : (r pc pc' : ℕ) (s : Frame) (vars : Variables) (z : Outcome Value) → pc ≡ pc' → Leads r pc s vars z → Leads r pc' s vars z
   ends_at r pc pc' s vars z e h = subst (λ n. Leads r n s vars z) e h
 
@@ -103,7 +103,7 @@ module _ (o : Object) (f : Firing) where
 
   -- one instruction that leaves the value where it is
   pub keep_leads : (r pc : ℕ) (v : Value) (s : Frame) (vars vars1 : Variables) (i : Instr) → length s.registers ≡ 8 → s.pc ≡ pc → slice_get o.code pc ≡ Some i → slice_index_or s.registers r None ≡ Some v
-      → st.act i o f s vars ≡ st.Goes (at_place s (s.pc + 1)) vars1 → Leads r (pc + 1) s vars (Has v vars1)
+      → st.act i o f s vars ≡ st.Goes (at_index s (s.pc + 1)) vars1 → Leads r (pc + 1) s vars (Has v vars1)
   keep_leads r pc v s vars vars1 i long e has val op =
       let n : s.pc + 1 ≡ pc + 1 = omega arith in
       λ end c. goes _ vars1 (step s vars pc i e has ∙ op) (c _ (record { at = n; value = val; kept = λ k less. refl; long = long; tuple = refl }))
@@ -211,14 +211,14 @@ module _ (o : Object) (f : Firing) where
       let q = h pl2 in
       let to = pl.at + 2 + length p.code in
       let end = to + length q.code in
-      let t = at_place s to in
+      let t = at_index s to in
       let back = has_back o.code (pl.at + 1) p.code (Ba end ∷ q.code) stands.code.1 in
       let stq : Stands o pl2 q = record { code = back.1; texts = has_back o.texts pl.texts p.texts q.texts stands.texts; numbers = has_back o.numbers pl.numbers p.numbers q.numbers stands.numbers } in
       let there : to ≡ pl2.at = omega arith in
       let last : pl2.at + length q.code ≡ pl.at + length (Branch condition to ∷ (p.code ++ Ba end ∷ q.code)) = omega (arith, length-append p.code (Ba end ∷ q.code)) in
       ends_at r (pl2.at + length q.code) _ s vars b last
       (before_leads r (pl2.at + length q.code) s t vars b refl refl
-      (λ x w. goes t vars (step s vars pl.at (Branch condition to) e stands.code.0 ∙ ap (λ y. st.on y (λ k. st.Goes (at_place s (cond (holds condition k) to (s.pc + 1))) vars)) c ∙ ap (λ y. st.Goes (at_place s (cond y to (s.pc + 1))) vars) is) w)
+      (λ x w. goes t vars (step s vars pl.at (Branch condition to) e stands.code.0 ∙ ap (λ y. st.on y (λ k. st.Goes (at_index s (cond (holds condition k) to (s.pc + 1))) vars)) c ∙ ap (λ y. st.Goes (at_index s (cond y to (s.pc + 1))) vars) is) w)
       (lb pl2 stq t there refl refl))
   fork_leads r pl condition g h s vars known a b false e c is stands la lb =
       let pl1 = next pl in
@@ -227,14 +227,14 @@ module _ (o : Object) (f : Firing) where
       let q = h pl2 in
       let to = pl.at + 2 + length p.code in
       let end = to + length q.code in
-      let t = at_place s (s.pc + 1) in
+      let t = at_index s (s.pc + 1) in
       let back = has_back o.code (pl.at + 1) p.code (Ba end ∷ q.code) stands.code.1 in
       let stp : Stands o pl1 p = record { code = has_front o.code (pl.at + 1) p.code (Ba end ∷ q.code) stands.code.1; texts = has_front o.texts pl.texts p.texts q.texts stands.texts; numbers = has_front o.numbers pl.numbers p.numbers q.numbers stands.numbers } in
       let there : s.pc + 1 ≡ pl1.at = omega arith in
       let last : end ≡ pl.at + length (Branch condition to ∷ (p.code ++ Ba end ∷ q.code)) = omega (arith, length-append p.code (Ba end ∷ q.code)) in
       ends_at r end _ s vars a last
       (before_leads r end s t vars a refl refl
-      (λ x w. goes t vars (step s vars pl.at (Branch condition to) e stands.code.0 ∙ ap (λ y. st.on y (λ k. st.Goes (at_place s (cond (holds condition k) to (s.pc + 1))) vars)) c ∙ ap (λ y. st.Goes (at_place s (cond y to (s.pc + 1))) vars) is) w)
+      (λ x w. goes t vars (step s vars pl.at (Branch condition to) e stands.code.0 ∙ ap (λ y. st.on y (λ k. st.Goes (at_index s (cond (holds condition k) to (s.pc + 1))) vars)) c ∙ ap (λ y. st.Goes (at_index s (cond y to (s.pc + 1))) vars) is) w)
       (jump_leads r (pl1.at + length p.code) end t vars a back.0 (la pl1 stp t there refl refl)))
 
   -- after a test

@@ -70,7 +70,7 @@ module _ (slots : Slots) where
   is_action (Trace e) is few = is_object e is few
   is_action (Print format es) is few = (refl, are_objects es is few)
   is_action (Exit e) is few = is_object e is few
-  is_action (Aggregate place es e) is few = (refl, are_objects es is.0 few.0, is_optional e is.1 few.1)
+  is_action (Aggregate index es e) is few = (refl, are_objects es is.0 few.0, is_optional e is.1 few.1)
 
   are_actions : (all : List Action) → ActionsAre (IsConsistent slots) all → ActionsAre FitsRegisters all → AllZip (IsActionOf slots) (map compiled_action all) all
   are_actions [] is few = tt
@@ -79,14 +79,14 @@ module _ (slots : Slots) where
 -- a clause that was compiled does what it means
 does : (slots : Slots) (c : CompiledClause) (m : ClauseMeant) → ClauseIs (IsConsistent slots) m → ClauseIs FitsRegisters m → clause_code c ≡ compiled_clause m → IsSameClause slots c m
 does slots c m is few same =
-    let runs = λ (f : Firing) (place : ℕ) (vars : Variables) (fit : HasTypedBuiltIns f) (good : AreTyped slots vars).
-    ap (λ c. run_code f place c vars) same ∙ run_same slots f fit place m vars is few good in
+    let runs = λ (f : Firing) (index : ℕ) (vars : Variables) (fit : HasTypedBuiltIns f) (good : AreTyped slots vars).
+    ap (λ c. run_code f index c vars) same ∙ run_same slots f fit index m vars is few good in
     record {
       descriptions = ap (λ (c : ClauseCode). c.descriptions) same;
       predicate = subst (λ (c : ClauseCode). IsOptionalObjectOf slots c.predicate m.predicate) (sym same) (is_optional slots m.predicate is.0 few.0);
       actions = subst (λ (c : ClauseCode). AllZip (IsActionOf slots) c.actions m.statements) (sym same) (are_actions slots m.statements is.1 few.1);
       runs = runs;
-      typed = λ f place vars fit good. subst (λ made. AreTyped slots made.variables) (sym (runs f place vars fit good)) (run_kept slots f fit place m vars is good);
+      typed = λ f index vars fit good. subst (λ made. AreTyped slots made.variables) (sym (runs f index vars fit good)) (run_kept slots f fit index m vars is good);
     }
 
 pub all_do : (slots : Slots) (cs : List CompiledClause) (ms : List ClauseMeant) → ClausesAre (IsConsistent slots) ms → ClausesAre FitsRegisters ms

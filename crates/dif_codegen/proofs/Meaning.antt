@@ -44,7 +44,7 @@ use Rattle.dif_validate.specs.declared.register.Reg.{Reg}
 use Rattle.dif_validate.specs.Objects.{Object}
 use Rattle.dif_validate.specs.Registers.{at}
 use Rattle.dif_machine.specs.Frames.{Frame}
-use Rattle.dif_machine.specs.Frames.{at_place}
+use Rattle.dif_machine.specs.Frames.{at_index}
 use Rattle.dif_machine.specs.Operators.{result_of, comparison_of, text_comparison_of, holds}
 use Rattle.dif_machine.specs.Sources as machine
 use Rattle.dif_machine.specs.Semantics as st
@@ -264,7 +264,7 @@ loads sp.Thread slot t d o f s vars is = ap (λ v. st.puts s d v vars) (kept_kin
 loads sp.Clause slot t d o f s vars is = ap (λ v. st.puts s d v vars) (kept_kind t _ is)
 
 pub stores : (w : Space) (slot : ℕ) (t : DType) (a : Reg) (o : Object) (f : Firing) (s : Frame) (vars : Variables) (v : Value) → IsOf t v → at s.registers a ≡ Some v
-    → st.act (store_to w (record { slot = slot; kind = kind_of_type t }) a) o f s vars ≡ st.Goes (at_place s (s.pc + 1)) (set_in w vars (record { slot = slot; kind = kind_of_type t }) [] (storage.as_kind (kind_of_type t) v))
+    → st.act (store_to w (record { slot = slot; kind = kind_of_type t }) a) o f s vars ≡ st.Goes (at_index s (s.pc + 1)) (set_in w vars (record { slot = slot; kind = kind_of_type t }) [] (storage.as_kind (kind_of_type t) v))
 stores sp.Thread slot t a o f s vars v is has =
     ap (λ x. st.on_kind (kind_of_type t) x (st.store_own s vars (record { slot = slot; kind = kind_of_type t }) [])) has
     ∙ on_kind_is t v (st.store_own s vars (record { slot = slot; kind = kind_of_type t }) []) is

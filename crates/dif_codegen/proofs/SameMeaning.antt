@@ -81,9 +81,9 @@ module _ (slots : Slots) (f : Firing) (fit : HasTypedBuiltIns f) where
   effect_same (Trace e) vars is few good = ap (λ o. with o (λ x. Has (ef.Says (trace_line (type_of e) x)))) (value_same e vars is few good)
   effect_same (Print format all) vars is few good = ap (λ o. with o (λ values. Has (ef.Says (printf_text format values)))) (values_same all vars is few good)
   effect_same (Exit e) vars is few good = ap (λ o. with o (λ word. Has (ef.Exits (word % 256)))) (number_same e vars is few good)
-  effect_same (Aggregate place keys argument) vars is few good =
-      ap (λ o. with o (λ key vars. with (argument_by (by_objects f) (optional_object argument) vars) (λ z. Has (ef.Adds place key z)))) (key_same keys vars is.0 few.0 good)
-      ∙ on_same (λ key. Unit {0}) (keys_of f keys vars) _ _ (keys_are slots f fit keys vars (all_are keys is.0) good) (λ key late well. ap (λ o. with o (λ z. Has (ef.Adds place key z))) (given_same argument late is.1 few.1 well))
+  effect_same (Aggregate index keys argument) vars is few good =
+      ap (λ o. with o (λ key vars. with (argument_by (by_objects f) (optional_object argument) vars) (λ z. Has (ef.Adds index key z)))) (key_same keys vars is.0 few.0 good)
+      ∙ on_same (λ key. Unit {0}) (keys_of f keys vars) _ _ (keys_are slots f fit keys vars (all_are keys is.0) good) (λ key late well. ap (λ o. with o (λ z. Has (ef.Adds index key z))) (given_same argument late is.1 few.1 well))
 
   -- a statement leaves variables that hold values of their types, as a clause of it alone does
   one_kept : (a : Action) (vars : Variables) → ActionIs (IsConsistent slots) a → AreTyped slots vars
@@ -121,8 +121,8 @@ module _ (slots : Slots) (f : Firing) (fit : HasTypedBuiltIns f) where
       ∙ where_same (number_outcome (eval f e vars)) go on (number_kept (eval f e vars) (type_of e) (eval_is slots f fit e vars is good)) rest
 
   -- a run of a compiled clause makes what a run of the clause makes
-  pub run_same : (place : ℕ) (c : ClauseMeant) (vars : Variables) → ClauseIs (IsConsistent slots) c → ClauseIs FitsRegisters c → AreTyped slots vars
-      → run_code f place (compiled_clause c) vars ≡ run_of f place c vars
-  run_same place c vars is few good =
-      ap (run_result (fault_line f.number place))
+  pub run_same : (index : ℕ) (c : ClauseMeant) (vars : Variables) → ClauseIs (IsConsistent slots) c → ClauseIs FitsRegisters c → AreTyped slots vars
+      → run_code f index (compiled_clause c) vars ≡ run_of f index c vars
+  run_same index c vars is few good =
+      ap (run_result (fault_line f.number index))
       (guarded_same c.predicate _ _ vars is.0 few.0 good (λ late well. statements_same c.statements late is.1 few.1 well))

@@ -72,7 +72,7 @@ use Rattle.dif_codegen.proofs.Typing.{Types, nothing_types, less_types, both_typ
 use Rattle.dif_codegen.proofs.Typing.{fork_types}
 
 module _ (o : Object) where
-  -- a maker's piece at a place
+  -- a maker's piece at an index
   abbrev Makes : Place → Shape → Maker → Shape → Type 0
   Makes pl s g t = Types o pl.at s (g pl).code t
 
@@ -82,7 +82,7 @@ module _ (o : Object) where
       let q = h (past pl p) in
       both_types o pl.at s p.code t q.code u (a (stands_front o pl p q stands)) (b (past pl p) (stands_back o pl p q stands))
 
-  -- a number's and a text's place in their tables
+  -- a number's and a text's index in their tables
   number_inside : (pl : Place) (word : ℕ) (d : Reg) → Stands o pl (pieces.number word d pl) → misses_table (Setx pl.numbers d) o ≡ false
   number_inside pl word d h = lt-leb (length o.numbers) pl.numbers (slice_get_within o.numbers pl.numbers word h.numbers.0)
 
@@ -379,9 +379,9 @@ module _ (o : Object) where
     past_is : (keys : Typeds) (ks : List Kind) → suc (length (ks ++ kinds_of_typed keys)) ≡ suc (length ks) + count keys
     past_is keys ks = omega (arith, length-append ks (kinds_of_typed keys), kinds_count keys)
 
-    at_place : (keys : Typeds) (ks : List Kind) (g : ℕ → Maker) (pl : Place) (s t : Shape) → (Stands o pl (g (suc (length (ks ++ kinds_of_typed keys))) pl) → Makes pl s (g (suc (length (ks ++ kinds_of_typed keys)))) t)
+    at_index : (keys : Typeds) (ks : List Kind) (g : ℕ → Maker) (pl : Place) (s t : Shape) → (Stands o pl (g (suc (length (ks ++ kinds_of_typed keys))) pl) → Makes pl s (g (suc (length (ks ++ kinds_of_typed keys)))) t)
         → Stands o pl (g (suc (length ks) + count keys) pl) → Makes pl s (g (suc (length ks) + count keys)) t
-    at_place keys ks g pl s t h = subst (λ q. Stands o pl (g q pl) → Makes pl s (g q) t) (past_is keys ks) h
+    at_index keys ks g pl s t h = subst (λ q. Stands o pl (g q pl) → Makes pl s (g q) t) (past_is keys ks) h
 
     lowering_makes : (keys : Typeds) (ks : List Kind) (k : Kind) (pl : Place) → suc (length ks) + count keys ≤ 7 → Stands o pl (lowering keys (register (suc (length (ks ++ kinds_of_typed keys)))) (register (suc (length ks))) pl)
         → Makes pl (level ((ks ++ kinds_of_typed keys) ++ k ∷ [])) (lowering keys (register (suc (length (ks ++ kinds_of_typed keys)))) (register (suc (length ks)))) (level (ks ++ k ∷ []))
@@ -599,7 +599,7 @@ module _ (o : Object) where
           both_make pl (level ks) (level js) (level (ks ++ k ∷ [])) (keys_code keys r) (both (code_of a (r + count keys)) (save (r + count keys))) stands
           (λ st1. keys_make keys c.1 ks 0 pl (omega arith) st1)
           (λ pl1 st1.
-          at_place keys ks (λ q. both (code_of a q) (save q)) pl1 (level js) (level (ks ++ k ∷ []))
+          at_index keys ks (λ q. both (code_of a q) (save q)) pl1 (level js) (level (ks ++ k ∷ []))
           (λ st2. both_make pl1 (level js) (level (js ++ k ∷ [])) (level (ks ++ k ∷ [])) (code_of a (suc (length js))) (save (suc (length js))) st2
           (λ st3. as_kind (type_of a) x.holds c.2 js pl1.at (level js) _ (expr_makes a c.3 js pl1 (omega (arith, past_is keys ks)) st3))
           (λ pl3 st3. save_makes keys ks x.space x.slot k pl3 (omega arith) st3)) st1)
@@ -621,7 +621,7 @@ module _ (o : Object) where
           both_make pl (level ks) (level js) (level (ks ++ k ∷ [])) (keys_code keys r) (rest (r + count keys)) stands
           (λ st1. keys_make keys c.1 ks 0 pl (omega arith) st1)
           (λ pl1 st1.
-          at_place keys ks rest pl1 (level js) (level (ks ++ k ∷ []))
+          at_index keys ks rest pl1 (level js) (level (ks ++ k ∷ []))
           (λ st2.
           both_make pl1 (level js) (level one) (level (ks ++ k ∷ [])) (fetching x.space keys (var_of x) r (register q)) (both (narrowing t (register q)) (both (code_of a (q + 1)) (act q))) st2
           (λ st3. as_said k ki.Number number js pl1.at (level js) _ (fetch_makes keys ks x.space x.slot k pl1 (omega arith) st3))
@@ -652,7 +652,7 @@ module _ (o : Object) where
           both_make pl (level ks) (level js) (level (ks ++ k ∷ [])) (keys_code keys r) (rest (r + count keys)) stands
           (λ st1. keys_make keys c.1 ks 0 pl (omega arith) st1)
           (λ pl1 st1.
-          at_place keys ks rest pl1 (level js) (level (ks ++ k ∷ []))
+          at_index keys ks rest pl1 (level js) (level (ks ++ k ∷ []))
           (λ st2.
           both_make pl1 (level js) (level one) (level (ks ++ k ∷ [])) (fetching x.space keys (var_of x) r (register q)) (both (stepping step x.holds (register q)) (both (saving x.space keys (var_of x) r (register q)) (both (answering answer step x.holds (register q)) (lowering keys (register q) (register r))))) st2
           (λ st3. as_said k ki.Number number js pl1.at (level js) _ (fetch_makes keys ks x.space x.slot k pl1 (omega arith) st3))

@@ -26,7 +26,7 @@ pub record IsObjectOf (slots : Slots) (x : TypedObject) (e : Typed) : Type 0 whe
   pub returns : x.returns ≡ type_of e
   pub computes : Computes slots x.object e
 
--- each object is of the expression at its place
+-- each object is of the expression at its index
 abbrev pub AreObjectsOf : Slots → List TypedObject → Typeds → Type 0
 AreObjectsOf slots [] end = Unit {0}
 AreObjectsOf slots (x ∷ xs) (more e es) = IsObjectOf slots x e × AreObjectsOf slots xs es
@@ -45,8 +45,8 @@ IsActionOf slots (Trace x) (Trace e) = IsObjectOf slots x e
 IsActionOf slots (Print format xs) (Print written es) =
     (format ≡ written) × AreObjectsOf slots xs es
 IsActionOf slots (Exit x) (Exit e) = IsObjectOf slots x e
-IsActionOf slots (Aggregate place xs x) (Aggregate aggregation es e) =
-    (place ≡ aggregation) × AreObjectsOf slots xs es × IsOptionalObjectOf slots x e
+IsActionOf slots (Aggregate index xs x) (Aggregate aggregation es e) =
+    (index ≡ aggregation) × AreObjectsOf slots xs es × IsOptionalObjectOf slots x e
 IsActionOf slots code action = ⊥
 
 -- what a run returns and leaves, unless memory ran out

@@ -56,10 +56,10 @@ by_objects f = record {
   type = λ x. x.returns;
 }
 
--- a run of the compiled clause at this place among the program's, from 1
+-- a run of the compiled clause at this index among the program's, from 1
 abbrev pub run_code : Firing → ℕ → ClauseCode → Variables → Made
-run_code f place c vars =
-    run_by (by_objects f) (fault_line f.number place) c.predicate c.actions vars
+run_code f index c vars =
+    run_by (by_objects f) (fault_line f.number index) c.predicate c.actions vars
 
 -- ---- programs
 
@@ -70,10 +70,10 @@ pub record IsSameClause (slots : Slots) (c : CompiledClause) (meant : ClauseMean
   pub descriptions : c.descriptions.items ≡ meant.descriptions
   pub predicate : IsOptionalObjectOf slots c.predicate meant.predicate
   pub actions : AllZip (IsActionOf slots) (clause_code c).actions meant.statements
-  pub runs : (f : Firing) (place : ℕ) (vars : Variables) → HasTypedBuiltIns f → AreTyped slots vars
-      → run_code f place (clause_code c) vars ≡ run_of f place meant vars
-  pub typed : (f : Firing) (place : ℕ) (vars : Variables) → HasTypedBuiltIns f → AreTyped slots vars
-      → AreTyped slots (run_code f place (clause_code c) vars).variables
+  pub runs : (f : Firing) (index : ℕ) (vars : Variables) → HasTypedBuiltIns f → AreTyped slots vars
+      → run_code f index (clause_code c) vars ≡ run_of f index meant vars
+  pub typed : (f : Firing) (index : ℕ) (vars : Variables) → HasTypedBuiltIns f → AreTyped slots vars
+      → AreTyped slots (run_code f index (clause_code c) vars).variables
 
 -- some action of the clauses is an exit
 abbrev pub code_exits : List CompiledClause → Bool

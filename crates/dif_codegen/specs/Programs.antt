@@ -19,7 +19,7 @@ action_code (Action.Plain x) = Evaluate x
 action_code (Action.Trace x) = Trace x
 action_code (Action.Printf format arguments) = Print format.items arguments.items
 action_code (Action.Exit x) = Exit x
-action_code (Action.Aggregate place keys argument) = Aggregate place keys.items argument
+action_code (Action.Aggregate index keys argument) = Aggregate index keys.items argument
 
 abbrev pub clause_code : CompiledClause → ClauseCode
 clause_code c = record {

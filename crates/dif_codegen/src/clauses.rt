@@ -35,20 +35,20 @@ fn compile_printf(
 // `@name[keys] = function(argument)`
 fn compile_aggregate(
     alloc: Global,
-    place: usize,
+    index: usize,
     keys: &[TypedExpr],
     argument: &Option<TypedExpr>,
 ) -> Result<Action, AllocError>
     requires few { ActionIs FitsRegisters
-        (Aggregate place (typeds_of keys.now) (typed_argument argument.now)) }
+        (Aggregate index (typeds_of keys.now) (typed_argument argument.now)) }
     requires consistent { (slots : Slots) × ActionIs (IsConsistent slots)
-        (Aggregate place (typeds_of keys.now) (typed_argument argument.now)) }
+        (Aggregate index (typeds_of keys.now) (typed_argument argument.now)) }
     ensures { IfOk result (λ a. action_code a ≡ compiled_action
-        (Aggregate place (typeds_of keys.now) (typed_argument argument.now))) }
+        (Aggregate index (typeds_of keys.now) (typed_argument argument.now))) }
 {
     let keys = compile_expressions(alloc, keys)?;
     let argument = compile_optional(alloc, argument)?;
-    Ok(Action::Aggregate(place, keys, argument))
+    Ok(Action::Aggregate(index, keys, argument))
 }
 
 fn compile_statement(alloc: Global, s: &TypedStmt) -> Result<Action, AllocError>
@@ -61,8 +61,8 @@ fn compile_statement(alloc: Global, s: &TypedStmt) -> Result<Action, AllocError>
         TypedStmt::Trace(e) => compile_expression(alloc, e).map(Action::Trace),
         TypedStmt::Print(format, arguments) => compile_printf(alloc, format, arguments),
         TypedStmt::Exit(e) => compile_expression(alloc, e).map(Action::Exit),
-        TypedStmt::Aggregate(place, keys, argument) => {
-            compile_aggregate(alloc, *place, keys, argument)
+        TypedStmt::Aggregate(index, keys, argument) => {
+            compile_aggregate(alloc, *index, keys, argument)
         }
     }
 }

@@ -58,7 +58,7 @@ pub enum Action {
     Printf(Vec<Piece>, Vec<TypedObject>),
     /// `exit(status)`
     Exit(TypedObject),
-    /// `@name[keys] = function(argument)`: the aggregation's place, its keys, and what its function
+    /// `@name[keys] = function(argument)`: the aggregation's index, its keys, and what its function
     /// takes, if any.
     Aggregate(usize, Vec<TypedObject>, Option<TypedObject>),
 }

@@ -37,11 +37,11 @@ fn write_headed<W: fmt::Write>(
 // Keys, and after them what the function takes, if anything.
 fn write_aggregate<W: fmt::Write>(
     f: &mut fmt::Formatter<W>,
-    place: usize,
+    index: usize,
     keys: &[TypedObject],
     argument: &Option<TypedObject>,
 ) -> fmt::Result {
-    write!(f, "  aggregate {place}\n")?;
+    write!(f, "  aggregate {index}\n")?;
     write_all(f, keys)?;
     match argument {
         Some(argument) => Display::fmt(argument, f),
@@ -59,7 +59,7 @@ impl fmt::Display for Action {
                 write_all(f, arguments)
             }
             Action::Exit(object) => write_headed(f, "  exit\n", object),
-            Action::Aggregate(place, keys, argument) => write_aggregate(f, *place, keys, argument),
+            Action::Aggregate(index, keys, argument) => write_aggregate(f, *index, keys, argument),
         }
     }
 }

@@ -12,7 +12,7 @@ use Rattle.dif_machine.specs.Vocabulary.{Pushtr, Pushtv, Flushts, Ldtaa, Sttaa, 
 use Rattle.dif_machine.specs.Vocabulary.{Condition, Function, KeyPart, Number, Name, Kind}
 use Rattle.dif_machine.specs.Vocabulary.{NumberKind, TextKind, Object, Operator, OutOfZero, Reg, at}
 use Rattle.dif_machine.specs.Vocabulary.{Value, Int, Text, Var, Variables}
-use Rattle.dif_machine.specs.Frames.{Frame, at_place, with_content, with_value, with_comparison}
+use Rattle.dif_machine.specs.Frames.{Frame, at_index, with_content, with_value, with_comparison}
 use Rattle.dif_machine.specs.Frames.{with_tuple}
 use Rattle.dif_machine.specs.Held.{part_of_cell}
 use Rattle.dif_machine.specs.Operators.{result_of, complement, comparison_of, text_comparison_of}
@@ -161,17 +161,17 @@ module _ (o : Object) (f : Firing) (s : Frame) (vars : Variables) where
 
   -- ---- branches
 
-  pub ba : (to : ℕ) (t : Frame) → t ≡ at_place s to → act (Ba to) o f s vars ≡ Goes t vars
-  ba to t e = goes_to (at_place s to) t e
+  pub ba : (to : ℕ) (t : Frame) → t ≡ at_index s to → act (Ba to) o f s vars ≡ Goes t vars
+  ba to t e = goes_to (at_index s to) t e
 
-  pub branch : (condition : Condition) (to : ℕ) (known : Comparison) (t : Frame) → s.comparison ≡ Some known → t ≡ at_place s (cond (holds condition known) to (s.pc + 1))
+  pub branch : (condition : Condition) (to : ℕ) (known : Comparison) (t : Frame) → s.comparison ≡ Some known → t ≡ at_index s (cond (holds condition known) to (s.pc + 1))
       → act (Branch condition to) o f s vars ≡ Goes t vars
   branch condition to known t k e =
-      ap (λ x. on x (λ known. Goes (at_place s (cond (holds condition known) to (s.pc + 1))) vars)) k
-      ∙ goes_to (at_place s (cond (holds condition known) to (s.pc + 1))) t e
+      ap (λ x. on x (λ known. Goes (at_index s (cond (holds condition known) to (s.pc + 1))) vars)) k
+      ∙ goes_to (at_index s (cond (holds condition known) to (s.pc + 1))) t e
 
-  pub nop : (t : Frame) → t ≡ at_place s (s.pc + 1) → act Nop o f s vars ≡ Goes t vars
-  nop t e = goes_to (at_place s (s.pc + 1)) t e
+  pub nop : (t : Frame) → t ≡ at_index s (s.pc + 1) → act Nop o f s vars ≡ Goes t vars
+  nop t e = goes_to (at_index s (s.pc + 1)) t e
 
   -- ---- the tuple
 
@@ -241,7 +241,7 @@ module _ (o : Object) (f : Firing) (s : Frame) (vars : Variables) where
       key_is s.tuple (puts s d (own_value some x s.tuple) some) _ runs
       ∙ ap (λ value. puts s d value vars) (sym w) ∙ goes_to (with_value s d value) t e
 
-  module _ (x : Var) (a : Reg) (value : Value) (t : Frame) (some : Variables) (p : at s.registers a ≡ Some value) (e : t ≡ at_place s (s.pc + 1)) where
+  module _ (x : Var) (a : Reg) (value : Value) (t : Frame) (some : Variables) (p : at s.registers a ≡ Some value) (e : t ≡ at_index s (s.pc + 1)) where
     stored : (other go : Value → Next) → on_kind x.kind (at s.registers a) other ≢ Stuck → on_kind x.kind (at s.registers a) go ≡ go value
     stored other go runs =
         ap (λ v. on_kind x.kind v go) p ∙ kind_is x.kind value other go (λ h. runs (ap (λ v. on_kind x.kind v other) p ∙ h))

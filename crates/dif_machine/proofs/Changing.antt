@@ -17,7 +17,7 @@ use Rattle.dif_machine.specs.Vocabulary.{OutOfZero, Reg, at, Value, Int, Text, V
 use Rattle.dif_validate.specs.declared.row.Change.TheVariants.{ComparesTwo, StoresVariable}
 use Rattle.dif_validate.specs.Rows.{row_of}
 use Rattle.dif_machine.specs.Changes.{output_register, fills, Changes}
-use Rattle.dif_machine.specs.Frames.{Frame, at_place, with_value, with_comparison, with_tuple}
+use Rattle.dif_machine.specs.Frames.{Frame, at_index, with_value, with_comparison, with_tuple}
 use Rattle.dif_machine.specs.Operators.{result_of, comparison_of, text_comparison_of, holds}
 use Rattle.dif_machine.specs.Operators.{call_of}
 use Rattle.dif_machine.specs.Sources.{built_in_of}
@@ -79,7 +79,7 @@ module _ (s : Frame) (vars : Variables) (i : Instr) where
 
   value : (d : Reg) (v : Value) → output_register i ≡ Some d → Changes i s vars (Goes (with_value s d v) vars)
   value d v e = record {
-    place = λ ne. absurd (ne refl);
+    index = λ ne. absurd (ne refl);
     registers = λ r ne. put_other s.registers d r (Some v) (λ x. ne (e ∙ x));
     comparison = λ h. refl;
     tuple = λ h. refl;
@@ -92,7 +92,7 @@ module _ (s : Frame) (vars : Variables) (i : Instr) where
 
   comparison : (known : Comparison) → (row_of i).change ≡ ComparesTwo → Changes i s vars (Goes (with_comparison s known) vars)
   comparison known e = record {
-    place = λ ne. absurd (ne refl);
+    index = λ ne. absurd (ne refl);
     registers = λ r ne. refl;
     comparison = λ h. absurd (h e);
     tuple = λ h. refl;
@@ -101,7 +101,7 @@ module _ (s : Frame) (vars : Variables) (i : Instr) where
 
   tuple : (parts : List KeyPart) → fills i ≡ true → Changes i s vars (Goes (with_tuple s parts) vars)
   tuple parts e = record {
-    place = λ ne. absurd (ne refl);
+    index = λ ne. absurd (ne refl);
     registers = λ r ne. refl;
     comparison = λ h. refl;
     tuple = λ h. absurd (let x : true ≡ false = sym e ∙ h in cc);
@@ -112,19 +112,19 @@ module _ (s : Frame) (vars : Variables) (i : Instr) where
   push true p e = tuple (s.tuple ++ p ∷ []) e
   push false p e = tt
 
-  store : (after : Variables) → (row_of i).change ≡ StoresVariable → Changes i s vars (Goes (at_place s (s.pc + 1)) after)
+  store : (after : Variables) → (row_of i).change ≡ StoresVariable → Changes i s vars (Goes (at_index s (s.pc + 1)) after)
   store after e = record {
-    place = λ ne. absurd (ne refl);
+    index = λ ne. absurd (ne refl);
     registers = λ r ne. refl;
     comparison = λ h. refl;
     tuple = λ h. refl;
     variables = λ h. absurd (h e);
   }
 
-  go : (to : ℕ) → (to ≢ s.pc + 1 → jump_target i ≡ Some to) → Changes i s vars (Goes (at_place s to) vars)
-  go to h = record { place = h; registers = λ r ne. refl; comparison = λ h. refl; tuple = λ h. refl; variables = λ h. refl }
+  go : (to : ℕ) → (to ≢ s.pc + 1 → jump_target i ≡ Some to) → Changes i s vars (Goes (at_index s to) vars)
+  go to h = record { index = h; registers = λ r ne. refl; comparison = λ h. refl; tuple = λ h. refl; variables = λ h. refl }
 
-  branch : (b : Bool) (to : ℕ) → jump_target i ≡ Some to → Changes i s vars (Goes (at_place s (cond b to (s.pc + 1))) vars)
+  branch : (b : Bool) (to : ℕ) → jump_target i ≡ Some to → Changes i s vars (Goes (at_index s (cond b to (s.pc + 1))) vars)
   branch true to e = go to (λ ne. e)
   branch false to e = go (s.pc + 1) (λ ne. absurd (ne refl))
 

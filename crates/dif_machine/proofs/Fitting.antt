@@ -71,8 +71,8 @@ fits_value s f d k v h is = record {
   long = put_long f.registers d (Some v) ∙ h.long;
 }
 
-pub fits_place : (s : Shape) (f : Frame) (pc : ℕ) → FitsShape s f → FitsShape s (frames.at_place f pc)
-fits_place s f pc h = record { registers = h.registers; compared = h.compared; tuple = h.tuple; long = h.long }
+pub fits_index : (s : Shape) (f : Frame) (pc : ℕ) → FitsShape s f → FitsShape s (frames.at_index f pc)
+fits_index s f pc h = record { registers = h.registers; compared = h.compared; tuple = h.tuple; long = h.long }
 
 pub fits_comparison : (s : Shape) (f : Frame) (known : Comparison) → FitsShape s f → FitsShape (shape_compared s) (frames.with_comparison f known)
 fits_comparison s f known h = record { registers = h.registers; compared = λ e n. cc; tuple = h.tuple; long = h.long }

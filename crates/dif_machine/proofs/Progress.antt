@@ -57,11 +57,11 @@ use Rattle.dif_machine.specs.Sources.{built_in_of, built_ins, local_in, own_valu
 use Rattle.dif_machine.specs.Semantics.{Next, Goes, Ends, Faults, Stuck, on, on_key, puts_result}
 use Rattle.dif_machine.specs.Semantics.{pushes, act, step_of}
 use Rattle.dif_machine.specs.Steps.Semantics.{Stepped}
-use Rattle.dif_machine.proofs.Fitting.{fits_within, fits_value, fits_place, fits_comparison}
+use Rattle.dif_machine.proofs.Fitting.{fits_within, fits_value, fits_index, fits_comparison}
 use Rattle.dif_machine.proofs.Fitting.{fits_tuple, one, two, any, on_there, number_there}
 use Rattle.dif_machine.proofs.Fitting.{text_there, kind_there}
 
--- what is known at a frame's place holds of it
+-- what is known at a frame's index holds of it
 pub record Reached (o : Object) (f : Frame) : Type 0 where
   pub inside : f.pc < length o.code
   pub shape : Shape
@@ -150,7 +150,7 @@ module _ (o : Object) (valid : IsValid o) (f : Firing) (s : Frame) (vars : Varia
         )
 
     -- to a target
-    jump : (to : ℕ) → jump_target i ≡ Some to → leaves i t ≡ t → Good (Goes (frames.at_place s to) vars)
+    jump : (to : ℕ) → jump_target i ≡ Some to → leaves i t ≡ t → Good (Goes (frames.at_index s to) vars)
     jump to e same =
         let less = goes_on i s.pc to fine.forward e in
         let has = flows_target o.code s.pc i t at_pc is to to less e in (
@@ -159,7 +159,7 @@ module _ (o : Object) (valid : IsValid o) (f : Firing) (s : Frame) (vars : Varia
             inside = stays_in i (length o.code) to fine.inside e;
             shape = has.shape;
             is = has.is;
-            fits = fits_within has.shape (leaves i t) (frames.at_place s to) has.within (subst (λ u. FitsShape u (frames.at_place s to)) (sym same) (fits_place t s to fits));
+            fits = fits_within has.shape (leaves i t) (frames.at_index s to) has.within (subst (λ u. FitsShape u (frames.at_index s to)) (sym same) (fits_index t s to fits));
           },
         )
 
@@ -194,9 +194,9 @@ module _ (o : Object) (valid : IsValid o) (f : Firing) (s : Frame) (vars : Varia
   some_tuple [] h e = cc
   some_tuple (k ∷ ks) h e = cc
 
-  branch_good : (condition : Condition) (to : ℕ) (at_pc : slice_get o.code s.pc ≡ Some (Branch condition to)) (fine : IsFaultless o s.pc (Branch condition to) t) (b : Bool) → Good (Goes (frames.at_place s (if b then to else (s.pc + 1))) vars)
+  branch_good : (condition : Condition) (to : ℕ) (at_pc : slice_get o.code s.pc ≡ Some (Branch condition to)) (fine : IsFaultless o s.pc (Branch condition to) t) (b : Bool) → Good (Goes (frames.at_index s (if b then to else (s.pc + 1))) vars)
   branch_good condition to at_pc fine true = jump (Branch condition to) at_pc fine to refl refl
-  branch_good condition to at_pc fine false = fall (Branch condition to) at_pc fine _ vars refl refl (fits_place t s _ fits)
+  branch_good condition to at_pc fine false = fall (Branch condition to) at_pc fine _ vars refl refl (fits_index t s _ fits)
 
   comparison_there : (known : Option Comparison) → known ≢ None → (c : Comparison) × (known ≡ Some c)
   comparison_there None h = absurd (h refl)
@@ -239,11 +239,11 @@ module _ (o : Object) (valid : IsValid o) (f : Firing) (s : Frame) (vars : Varia
   act_good (Ldts x d) p fine = value_good (Ldts x d) p fine d (Some x.kind) (own_value vars x []) refl refl (is_kind (own_value vars x []) x.kind (as_kind_is x.kind (vars.own x [])))
   act_good (Stts x a) p fine =
       kind_there Good x.kind (at s.registers a) _ (has_one x.kind a (one x.kind a t fine.fine.kinds fine.fine.set))
-      (λ v e. fall (Stts x a) p fine _ (record { locals = vars.locals; own = with_own vars.own x [] v }) refl refl (fits_place t s _ fits))
+      (λ v e. fall (Stts x a) p fine _ (record { locals = vars.locals; own = with_own vars.own x [] v }) refl refl (fits_index t s _ fits))
   act_good (Ldls x d) p fine = value_good (Ldls x d) p fine d (Some x.kind) (local_in vars x) refl refl (is_kind (local_in vars x) x.kind (as_kind_is x.kind (vars.locals x)))
   act_good (Stls x a) p fine =
       kind_there Good x.kind (at s.registers a) _ (has_one x.kind a (one x.kind a t fine.fine.kinds fine.fine.set))
-      (λ v e. fall (Stls x a) p fine _ (record { locals = with_local vars.locals x v; own = vars.own }) refl refl (fits_place t s _ fits))
+      (λ v e. fall (Stls x a) p fine _ (record { locals = with_local vars.locals x v; own = vars.own }) refl refl (fits_index t s _ fits))
   act_good (Pushtr a) p fine =
       let ks = tuple_known (Pushtr a) t.tuple fine.fine.tuple in
       text_there Good (at s.registers a) _ (has_one Text a (one Text a t fine.fine.kinds fine.fine.set)) (λ bytes. push_good (Pushtr a) p fine (part.Name bytes) ks.0 refl refl ks.1 ks.2)
@@ -258,7 +258,7 @@ module _ (o : Object) (valid : IsValid o) (f : Firing) (s : Frame) (vars : Varia
       let ks = tuple_known (Sttaa x a) t.tuple fine.fine.tuple in
       key_good (Sttaa x a) p fine _ ks.0 ks.1 (some_tuple ks.0 ks.2)
       (kind_there Good x.kind (at s.registers a) _ (has_one x.kind a (one x.kind a t fine.fine.kinds fine.fine.set))
-      (λ v e. fall (Sttaa x a) p fine _ (record { locals = vars.locals; own = with_own vars.own x s.tuple v }) refl refl (fits_place t s _ fits)))
+      (λ v e. fall (Sttaa x a) p fine _ (record { locals = vars.locals; own = with_own vars.own x s.tuple v }) refl refl (fits_index t s _ fits)))
   act_good (Call function d) p fine =
       let ks = tuple_known (Call function d) t.tuple fine.fine.tuple in
       let v = called function s.tuple ks.0 (fits.tuple ks.0 ks.1) ks.2 in
@@ -267,7 +267,7 @@ module _ (o : Object) (valid : IsValid o) (f : Firing) (s : Frame) (vars : Varia
       let k = any a t fine.fine.set in
       let has = fits.registers a k.0 k.1 in
       on_there Good (at s.registers a) has.value _ has.is (returns_its_kind o s.pc t a k.0 (valid.each s.pc) p is k.1 ∙ ap Some (sym has.kind))
-  act_good Nop p fine = fall Nop p fine _ vars refl refl (fits_place t s _ fits)
+  act_good Nop p fine = fall Nop p fine _ vars refl refl (fits_index t s _ fits)
 
 -- a step from a reached state is never stuck, and goes on to such a state
 pub progress : (o : Object) → IsValid o → (f : Firing) (s : Frame) (vars : Variables) → Reached o s → Onward o s.pc (step_of o f s vars)

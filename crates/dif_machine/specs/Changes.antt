@@ -40,7 +40,7 @@ fills i = is_of_tuple (row_of i).change
 -- from one state to the next: nothing else than what the instruction is for
 pub record IsChanged (i : Instr) (s : Frame) (vars : Variables) (t : Frame) (after : Variables)
     : Type 0 where
-  pub place : t.pc ≢ s.pc + 1 → jump_target i ≡ Some t.pc
+  pub index : t.pc ≢ s.pc + 1 → jump_target i ≡ Some t.pc
   pub registers : (r : Reg) → output_register i ≢ Some r → at t.registers r ≡ at s.registers r
   pub comparison : (row_of i).change ≢ ComparesTwo → t.comparison ≡ s.comparison
   pub tuple : fills i ≡ false → t.tuple ≡ s.tuple

@@ -4,7 +4,7 @@
 use Rattle.std.specs.Prelude.{ℕ, ◌+◌, List, [], ◌∷◌, Option, Some, None}
 use Rattle.dif_machine.specs.Vocabulary.{Comparison, KeyPart, Reg, put, Value, Int}
 
--- the place of the instruction that is next, what each register holds (none where it is unset), how
+-- the index of the instruction that is next, what each register holds (none where it is unset), how
 -- the two values compare that were compared last, and the tuple
 pub record Frame : Type 0 where
   pub pc : ℕ
@@ -23,8 +23,8 @@ start = record {
 
 -- ---- on to another instruction
 
-abbrev pub at_place : Frame → ℕ → Frame
-at_place s pc = record {
+abbrev pub at_index : Frame → ℕ → Frame
+at_index s pc = record {
   pc = pc;
   registers = s.registers;
   comparison = s.comparison;

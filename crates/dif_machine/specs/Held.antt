@@ -1,5 +1,5 @@
 -- What the registers and the tuple of a frame hold: constants and texts of the firing by their
--- places.
+-- indices.
 use Rattle.std.specs.Prelude.{ℕ, List, Option, Some, None, map, option_map, slice_get}
 use Rattle.dif_machine.specs.declared.held.{Cell.Cell, Held.Held}
 use Rattle.dif_machine.specs.Vocabulary.{cast_signed, w64, Firing, FrameInMemory, KeyPart, Number}

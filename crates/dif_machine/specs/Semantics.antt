@@ -9,7 +9,7 @@ use Rattle.dif_machine.specs.Vocabulary.{Stls, Pushtr, Pushtv, Flushts, Ldtaa, S
 use Rattle.dif_machine.specs.Vocabulary.{Nop, KeyPart, Number, Name, Kind, NumberKind, TextKind}
 use Rattle.dif_machine.specs.Vocabulary.{Object, OutOfZero, Reg, at, Value, Int, Text, Var}
 use Rattle.dif_machine.specs.Vocabulary.{Variables, set_local, set_own}
-use Rattle.dif_machine.specs.Frames.{Frame, at_place, with_value, with_comparison, with_tuple}
+use Rattle.dif_machine.specs.Frames.{Frame, at_index, with_value, with_comparison, with_tuple}
 use Rattle.dif_machine.specs.Operators.{result_of, complement, comparison_of, text_comparison_of}
 use Rattle.dif_machine.specs.Operators.{holds, call_of}
 use Rattle.dif_machine.specs.Sources.{built_in_of, argument_of, local_in, own_value}
@@ -49,10 +49,10 @@ on_key (p ∷ ps) next = next
 
 abbrev pub store_own : Frame → Variables → Var → List KeyPart → Value → Next
 store_own s vars x key value =
-    Goes (at_place s (s.pc + 1)) (set_own vars x key value)
+    Goes (at_index s (s.pc + 1)) (set_own vars x key value)
 
 abbrev pub store_local : Frame → Variables → Var → Value → Next
-store_local s vars x value = Goes (at_place s (s.pc + 1)) (set_local vars x value)
+store_local s vars x value = Goes (at_index s (s.pc + 1)) (set_local vars x value)
 
 -- ---- steps
 
@@ -69,7 +69,7 @@ abbrev pub pushes : Frame → KeyPart → Variables → Next
 pushes s p vars =
     if nat_lt (length s.tuple) 8 then Goes (with_tuple s (s.tuple ++ p ∷ [])) vars else Stuck
 
--- what the instruction at the place does
+-- what the instruction at the index does
 abbrev pub act : Instr → Object → Firing → Frame → Variables → Next
 act (Alu op a b d) o f s vars =
     on_number (at s.registers a)
@@ -85,10 +85,10 @@ act (Tst a) o f s vars =
 act (Scmp a b) o f s vars =
     on_text (at s.registers a)
     (λ x. on_text (at s.registers b) (λ y. Goes (with_comparison s (text_comparison_of x y)) vars))
-act (Ba to) o f s vars = Goes (at_place s to) vars
+act (Ba to) o f s vars = Goes (at_index s to) vars
 act (Branch condition to) o f s vars =
     on s.comparison
-    (λ known. Goes (at_place s (if holds condition known then to else (s.pc + 1))) vars)
+    (λ known. Goes (at_index s (if holds condition known then to else (s.pc + 1))) vars)
 act (Setx i d) o f s vars = on (slice_get o.numbers i) (λ n. puts s d (Int n) vars)
 act (Sets i d) o f s vars = on (slice_get o.texts i) (λ bytes. puts s d (Text bytes) vars)
 act (Ldgs v d) o f s vars = on (built_in_of f v) (λ x. puts s d x vars)
@@ -109,7 +109,7 @@ act (Sttaa x a) o f s vars =
     on_key s.tuple (on_kind x.kind (at s.registers a) (store_own s vars x s.tuple))
 act (Call function d) o f s vars = on (call_of function s.tuple) (λ value. puts s d value vars)
 act (Ret a) o f s vars = on (at s.registers a) (λ value. Ends value vars)
-act Nop o f s vars = Goes (at_place s (s.pc + 1)) vars
+act Nop o f s vars = Goes (at_index s (s.pc + 1)) vars
 
 -- one step
 abbrev pub step_of : Object → Firing → Frame → Variables → Next

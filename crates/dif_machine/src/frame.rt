@@ -4,7 +4,7 @@ ghost use Rattle.std.specs.Prelude.{◌≡◌, ◌≢◌, ◌<◌, ◌+◌, ◌-
 ghost use Rattle.std.specs.Prelude.{Some, None, IfOk, OnOk};
 ghost use Rattle.dif_machine.specs.Vocabulary.{Firing as Recorded, Object, at, lent_value};
 ghost use Rattle.dif_machine.specs.Vocabulary.{object_of};
-ghost use Rattle.dif_machine.specs.Frames.{at_place, start, with_comparison, with_content};
+ghost use Rattle.dif_machine.specs.Frames.{at_index, start, with_comparison, with_content};
 ghost use Rattle.dif_machine.specs.Frames.{with_tuple};
 ghost use Rattle.dif_machine.specs.Held.{contents, frame_of, held_value, part_of_cell, parts_of};
 ghost use Rattle.dif_machine.specs.Steps.Held.{register_content};
@@ -19,13 +19,13 @@ use d_values::{Text, Value, ValueRef};
 use dif_validate::Reg;
 use std::alloc::{AllocError, Global};
 
-/// The place in the code, the registers, the comparison and the tuple, and the allocator of their
+/// The index in the code, the registers, the comparison and the tuple, and the allocator of their
 /// texts.
 #[derive(Drop)]
 pub struct Frame {
     /// Where the memory of its texts and keys comes from.
     pub(crate) alloc: Global,
-    /// The place of the instruction that is next.
+    /// The index of the instruction that is next.
     pub pc: usize,
     /// The registers.
     pub registers: [Cell; 8],
@@ -147,7 +147,7 @@ impl Frame {
     pub(crate) fn go_on(&mut self)
         requires { self.old.pc < 2 ^ 64 - 1 }
         ensures { (o : Object) (f : Recorded) → frame_of o f self.new
-            ≡ at_place (frame_of o f self.old) (self.old.pc + 1) }
+            ≡ at_index (frame_of o f self.old) (self.old.pc + 1) }
     {
         self.pc += 1;
     }

@@ -16,7 +16,7 @@ use std::marker::Model;
 #[derive(Drop)]
 pub struct LastKey {
     keys: [Key; 18],
-    place: usize,
+    index: usize,
 }
 
 impl Model for LastKey {
@@ -25,9 +25,9 @@ impl Model for LastKey {
 
     ghost Value = { List KeyPart };
 
-    ghost view = { λ k. slice_index_or k.keys k.place [] };
+    ghost view = { λ k. slice_index_or k.keys k.index [] };
 
-    ghost invariant = { λ k. k.place < 18 };
+    ghost invariant = { λ k. k.index < 18 };
 }
 
 impl LastKey {
@@ -54,7 +54,7 @@ impl LastKey {
                 Key::new(alloc),
                 Key::new(alloc),
             ],
-            place: 0,
+            index: 0,
         }
     }
 
@@ -62,7 +62,7 @@ impl LastKey {
     pub(crate) fn key(&self) -> &Key
         ensures { result.now ≡ self.now }
     {
-        &self.keys[self.place]
+        &self.keys[self.index]
     }
 
     /// Writes the key of what these cells hold.
@@ -77,9 +77,9 @@ impl LastKey {
             (self.new
             ≡ parts_of (object_of context.entry.difo.now) context.entry.firing.now cells.now) }
     {
-        self.place = room_for(cells);
-        resize(alloc, &mut self.keys[self.place], cells.len())?;
-        write_over(&mut self.keys[self.place], cells, context)?;
+        self.index = room_for(cells);
+        resize(alloc, &mut self.keys[self.index], cells.len())?;
+        write_over(&mut self.keys[self.index], cells, context)?;
         Ok(())
     }
 }
@@ -112,8 +112,8 @@ fn are_held(parts: &[KeyPart], cells: &[Cell], context: Context<'_>) -> bool
     if parts.len() != cells.len() {
         return false;
     }
-    for place in 0..parts.len() {
-        if !parts[place].is_of(cells[place].lend(context)) {
+    for index in 0..parts.len() {
+        if !parts[index].is_of(cells[index].lend(context)) {
             return false;
         }
     }
@@ -167,8 +167,8 @@ fn write_over(key: &mut Key, cells: &[Cell], context: Context<'_>) -> Result<(),
     ensures { OnOk result
         (key.new ≡ parts_of (object_of context.entry.difo.now) context.entry.firing.now cells.now) }
 {
-    for (place, cell) in cells.iter().enumerate() {
-        write_part(key, place, cell, context)?;
+    for (index, cell) in cells.iter().enumerate() {
+        write_part(key, index, cell, context)?;
     }
     Ok(())
 }
@@ -178,20 +178,20 @@ fn write_over(key: &mut Key, cells: &[Cell], context: Context<'_>) -> Result<(),
 #[inline(never)]
 fn write_part(
     key: &mut Key,
-    place: usize,
+    index: usize,
     cell: &Cell,
     context: Context<'_>,
 ) -> Result<(), AllocError>
-    requires { place < length key.old }
+    requires { index < length key.old }
     ensures { OnOk result (key.new
-        ≡ slice_set key.old place (part_of_cell
+        ≡ slice_set key.old index (part_of_cell
         (content (object_of context.entry.difo.now) context.entry.firing.now cell.now))) }
 {
     match cell.lend(context) {
         ValueRef::Int(word) => {
-            key.set_number(place, word.cast_signed());
+            key.set_number(index, word.cast_signed());
             Ok(())
         }
-        ValueRef::Text(bytes) => key.set_name(place, bytes),
+        ValueRef::Text(bytes) => key.set_name(index, bytes),
     }
 }

@@ -10,7 +10,7 @@ ghost use Rattle.dif_machine.specs.Frames.{Frame, start};
 ghost use Rattle.dif_machine.specs.Semantics.{Stuck, step_of};
 ghost use Rattle.dif_machine.specs.Runs.{Comes, End, EndsBy, IsOver, Returns, Runs};
 
-/// An instruction goes to the next place or to its target. It changes the register that it writes,
+/// An instruction goes to the next index or to its target. It changes the register that it writes,
 /// a comparison the comparison, a push or `flushts` the tuple and a store the variables, and
 /// nothing else. A step that ends the run changes no variable.
 pub fn one_instruction_changes()

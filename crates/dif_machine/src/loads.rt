@@ -32,20 +32,20 @@ pub fn lent_load<'a>(difo: &'a Difo, firing: &'a Firing) -> Option<ValueRef<'a>>
     lent_source(first, difo, firing)
 }
 
-/// The instruction at a place, if there is one.
+/// The instruction at an index, if there is one.
 #[inline(always)]
-pub(crate) fn instruction(difo: &Difo, place: usize) -> Option<&Instr>
-    ensures { IfSome result (λ i. slice_get (object_of difo.now).code place ≡ Some i.now) }
+pub(crate) fn instruction(difo: &Difo, index: usize) -> Option<&Instr>
+    ensures { IfSome result (λ i. slice_get (object_of difo.now).code index ≡ Some i.now) }
 {
-    difo.code.get(place)
+    difo.code.get(index)
 }
 
-/// Whether the instruction at a place returns the first free register.
+/// Whether the instruction at an index returns the first free register.
 #[inline(always)]
-pub(crate) fn returns_at(difo: &Difo, place: usize) -> bool
-    ensures { IsTrue result → slice_get (object_of difo.now).code place ≡ Some (Ret R1) }
+pub(crate) fn returns_at(difo: &Difo, index: usize) -> bool
+    ensures { IsTrue result → slice_get (object_of difo.now).code index ≡ Some (Ret R1) }
 {
-    matches!(instruction(difo, place), Some(Instr::Ret(Reg::R1)))
+    matches!(instruction(difo, index), Some(Instr::Ret(Reg::R1)))
 }
 
 /// Lends what an object returns that only loads an argument. None of any other object.

@@ -43,7 +43,7 @@ pub(crate) fn step(
     }
 }
 
-// Executes the instruction at the place. It is read in place, as no instruction uses all fields.
+// Executes the instruction at the index. It is read in place, as no instruction uses all fields.
 fn execute(
     context: Context<'_>,
     instr: &Instr,

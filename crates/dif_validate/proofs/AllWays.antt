@@ -1,4 +1,4 @@
--- What is known at a place is what all ways to it make known.
+-- What is known at an index is what all ways to it make known.
 use Rattle.std.specs.Prelude.{◌≡◌, ◌↔◌, ◌⊎◌, ◌<◌, ◌≤◌, ◌+◌, ℕ, zero, suc, Bool, true, false, ◌&&◌}
 use Rattle.std.specs.Prelude.{nat_eq, if◌then◌else◌, List, [], ◌∷◌, ◌++◌, length, Option, Some, None}
 use Rattle.std.specs.Prelude.{slice_get}
@@ -15,7 +15,7 @@ use Rattle.dif_validate.specs.declared.instruction.Instr.TheVariants.{Pushtr, Pu
 use Rattle.dif_validate.specs.declared.instruction.Instr.TheVariants.{Sttaa, Call, Ret, Nop}
 use Rattle.dif_validate.specs.declared.register.Reg.{Reg}
 use Rattle.dif_validate.specs.declared.shape.Shape.{Shape}
-use Rattle.dif_validate.specs.Flow.{falls, jump_target, is_place, join, to_next, to_target, further}
+use Rattle.dif_validate.specs.Flow.{falls, jump_target, is_index, join, to_next, to_target, further}
 use Rattle.dif_validate.specs.Flow.{shape_at, before}
 use Rattle.dif_validate.specs.Leaves.{leaves, with_register, shape_compared, shape_with_tuple}
 use Rattle.dif_validate.specs.Leaves.{tuple_with}
@@ -226,12 +226,12 @@ sums_if : (Q : Shape → Type 0) (s : Shape) (b : Bool) (c : Type 0) → (b ≡ 
 sums_if Q s true c to from h = sums_same Q (λ t. c × Q t) (Some s) (λ t q. (to refl, q)) (λ t q. q.1) h
 sums_if Q s false c to from h = λ t q. let e : false ≡ true = from q.0 in cc
 
-place_is : (o : Option ℕ) (pc : ℕ) → is_place o pc ≡ true → o ≡ Some pc
-place_is None pc h = cc
-place_is (Some to) pc h = ap Some (eqb-true to pc h)
+index_is : (o : Option ℕ) (pc : ℕ) → is_index o pc ≡ true → o ≡ Some pc
+index_is None pc h = cc
+index_is (Some to) pc h = ap Some (eqb-true to pc h)
 
-is_its_place : (o : Option ℕ) (pc : ℕ) → o ≡ Some pc → is_place o pc ≡ true
-is_its_place o pc e = ap (λ x. is_place x pc) e ∙ eq-eqb pc pc refl
+is_its_index : (o : Option ℕ) (pc : ℕ) → o ≡ Some pc → is_index o pc ≡ true
+is_its_index o pc e = ap (λ x. is_index x pc) e ∙ eq-eqb pc pc refl
 
 -- the instruction, if there is one, leads ways from q to pc
 abbrev Lead : Option Instr → (Shape → Type 0) → (q pc : ℕ) → Shape → Type 0
@@ -255,8 +255,8 @@ sums_further P W w (Some i) q (Some s) pc h there =
     (λ e. let both = and_parts (falls i) (nat_eq (q + 1) pc) e in (both.0, sym (eqb-true (q + 1) pc both.1)))
     (λ e. both_true (falls i) (nat_eq (q + 1) pc) e.0 (eq-eqb (q + 1) pc (sym e.1))) left in
     let target : SumsUp (to_target i s pc) Target =
-    sums_if Left (leaves i s) (is_place (jump_target i) pc) (jump_target i ≡ Some pc)
-    (place_is (jump_target i) pc) (is_its_place (jump_target i) pc) left in
+    sums_if Left (leaves i s) (is_index (jump_target i) pc) (jump_target i ≡ Some pc)
+    (index_is (jump_target i) pc) (is_its_index (jump_target i) pc) left in
     sums_same (λ t. (P t ⊎ Next t) ⊎ Target t) (λ t. P t ⊎ Lead (Some i) W q pc t)
     (join (join w (to_next i q s pc)) (to_target i s pc))
     (λ t. ⊎_elim

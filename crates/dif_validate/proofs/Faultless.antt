@@ -15,7 +15,7 @@ use Rattle.dif_validate.specs.Asks.{asks, finds_other, finds_unset, lacks_compar
 use Rattle.dif_validate.specs.Faults.{goes_back, goes_out, misses_table, misses_variable}
 use Rattle.dif_validate.specs.Faults.{returns_other, misses_tuple, if_so, fault_in}
 use Rattle.dif_validate.specs.Faults.{fault_if_reached, first_of_faults, fault_of_instr}
-use Rattle.dif_validate.specs.Faults.{fault_there, fault_at_place}
+use Rattle.dif_validate.specs.Faults.{fault_there, fault_at_index}
 use Rattle.dif_validate.specs.Flow.{jump_target, before}
 use Rattle.dif_validate.specs.Objects.{Object}
 use Rattle.dif_validate.specs.Returns.{first_kind_before}
@@ -65,13 +65,13 @@ faultless_by o pc i kind s h =
     let e = if_so_none (misses_variable i) _ _ d.1 in
     record { forward = a.0; inside = b.0; fine = fine i pc kind s c.0; table = d.0; variable = e.0 }
 
-pub faultless : (o : Object) (pc : ℕ) (i : Instr) (s : Shape) → fault_at_place o pc ≡ None → slice_get o.code pc ≡ Some i → before o.code pc ≡ Some s → IsFaultless o pc i s
+pub faultless : (o : Object) (pc : ℕ) (i : Instr) (s : Shape) → fault_at_index o pc ≡ None → slice_get o.code pc ≡ Some i → before o.code pc ≡ Some s → IsFaultless o pc i s
 faultless o pc i s none there is =
     faultless_by o pc i (first_kind_before o.code pc) s
     (ap (fault_of_instr o pc i (first_kind_before o.code pc)) (sym is) ∙ ap (fault_there o pc) (sym there) ∙ none)
 
 -- a `ret` returns no other kind than an earlier one
-pub returns_no_other : (o : Object) (pc : ℕ) (i : Instr) (s : Shape) → fault_at_place o pc ≡ None → slice_get o.code pc ≡ Some i → before o.code pc ≡ Some s → returns_other i (first_kind_before o.code pc) s ≡ false
+pub returns_no_other : (o : Object) (pc : ℕ) (i : Instr) (s : Shape) → fault_at_index o pc ≡ None → slice_get o.code pc ≡ Some i → before o.code pc ≡ Some s → returns_other i (first_kind_before o.code pc) s ≡ false
 returns_no_other o pc i s none there is =
     let kind = first_kind_before o.code pc in
     let h : fault_of_instr o pc i kind (Some s) ≡ None = ap (fault_of_instr o pc i kind) (sym is) ∙ ap (fault_there o pc) (sym there) ∙ none in
@@ -96,33 +96,33 @@ branches_well o pc i kind way h =
     let b = if_so_none (goes_out i (length o.code)) _ _ a.1 in
     (a.0, b.0)
 
--- ---- the fault of an instruction is that of a place
+-- ---- the fault of an instruction is that of an index
 
-abbrev pub IsOfPlace : DifFault → Type 0
-IsOfPlace Empty = ⊥
-IsOfPlace NoReturn = ⊥
-IsOfPlace Memory = ⊥
-IsOfPlace _ = Unit {0}
+abbrev pub IsOfIndex : DifFault → Type 0
+IsOfIndex Empty = ⊥
+IsOfIndex NoReturn = ⊥
+IsOfIndex Memory = ⊥
+IsOfIndex _ = Unit {0}
 
-abbrev pub AreOfPlace : Option DifFault → Type 0
-AreOfPlace None = Unit {0}
-AreOfPlace (Some fault) = IsOfPlace fault
+abbrev pub AreOfIndex : Option DifFault → Type 0
+AreOfIndex None = Unit {0}
+AreOfIndex (Some fault) = IsOfIndex fault
 
-if_so_placed : (wrong : Bool) (fault : DifFault) (rest : Option DifFault) → IsOfPlace fault → AreOfPlace rest → AreOfPlace (if_so wrong fault rest)
+if_so_placed : (wrong : Bool) (fault : DifFault) (rest : Option DifFault) → IsOfIndex fault → AreOfIndex rest → AreOfIndex (if_so wrong fault rest)
 if_so_placed true fault rest a b = a
 if_so_placed false fault rest a b = b
 
-first_of_placed : (a b : Option DifFault) → AreOfPlace a → AreOfPlace b → AreOfPlace (first_of_faults a b)
+first_of_placed : (a b : Option DifFault) → AreOfIndex a → AreOfIndex b → AreOfIndex (first_of_faults a b)
 first_of_placed None b x y = y
 first_of_placed (Some fault) b x y = x
 
-reached_placed : (i : Instr) (pc : ℕ) (kind : Option Kind) (way : Option Shape) → AreOfPlace (fault_if_reached i pc kind way)
+reached_placed : (i : Instr) (pc : ℕ) (kind : Option Kind) (way : Option Shape) → AreOfIndex (fault_if_reached i pc kind way)
 reached_placed i pc kind None = tt
 reached_placed i pc kind (Some s) =
     if_so_placed (finds_other (asks i) s || returns_other i kind s) (RegisterKind pc) _ tt
     (if_so_placed (finds_unset (asks i) s || lacks_comparison i s) (Unset pc) _ tt (if_so_placed (misses_tuple i s.tuple) (TupleShape pc) None tt tt))
 
-pub fault_placed : (o : Object) (pc : ℕ) (i : Option Instr) → AreOfPlace (fault_there o pc i)
+pub fault_placed : (o : Object) (pc : ℕ) (i : Option Instr) → AreOfIndex (fault_there o pc i)
 fault_placed o pc None = tt
 fault_placed o pc (Some i) =
     if_so_placed (goes_back i pc) (Backward pc) _ tt
@@ -132,8 +132,8 @@ fault_placed o pc (Some i) =
 
 -- so the first fault is the reason of a refusal
 pub refused : (o : Object) (pc : ℕ) (fault : DifFault) → is_closed o.code ≡ true → IsFirst o pc fault → IsInvalid o fault
-refused o pc Empty closed h = absurd (subst AreOfPlace h.here (fault_placed o pc (slice_get o.code pc)))
-refused o pc NoReturn closed h = absurd (subst AreOfPlace h.here (fault_placed o pc (slice_get o.code pc)))
+refused o pc Empty closed h = absurd (subst AreOfIndex h.here (fault_placed o pc (slice_get o.code pc)))
+refused o pc NoReturn closed h = absurd (subst AreOfIndex h.here (fault_placed o pc (slice_get o.code pc)))
 refused o pc Memory closed h = tt
 refused o pc (Backward p) closed h = (closed, pc, h)
 refused o pc (OutOfCode p) closed h = (closed, pc, h)

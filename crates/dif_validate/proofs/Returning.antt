@@ -14,7 +14,7 @@ use Rattle.dif_validate.specs.Flow.{falls, jump_target, before}
 use Rattle.dif_validate.specs.Objects.{Object}
 use Rattle.dif_validate.specs.Registers.{at}
 use Rattle.dif_validate.specs.Returns.{kind_at_return, first_kind_before, return_kind}
-use Rattle.dif_validate.specs.Faults.{fault_at_place, returns_other}
+use Rattle.dif_validate.specs.Faults.{fault_at_index, returns_other}
 use Rattle.dif_validate.specs.Shapes.{is_other, is_same, is_unset, first_shape}
 use Rattle.dif_validate.specs.Validity.{is_return, is_closed, IsValid}
 use Rattle.dif_validate.proofs.Faultless.{IsFaultless, faultless, goes_on, stays_in}
@@ -31,7 +31,7 @@ falls_on : (i : Instr) → falls i ≡ true → is_return (Some i) ≡ true → 
 falls_on (Ret a) h e = cc
 falls_on _ h e = cc
 
--- the next place is inside
+-- the next index is inside
 pub next_inside : (o : Object) (pc : ℕ) (i : Instr) → is_closed o.code ≡ true → slice_get o.code pc ≡ Some i → falls i ≡ true → pc + 1 < length o.code
 next_inside o pc i closed there on =
     let within : pc < length o.code = slice_get_within o.code pc i there in
@@ -123,7 +123,7 @@ agrees (Some j) s a k is h =
     let other : not (is_same j k) ≡ false = ap (is_other j) (sym is) ∙ h in
     ap Some (same_is j k (not-false (is_same j k) other))
 
-pub returns_its_kind : (o : Object) (pc : ℕ) (s : Shape) (a : Reg) (k : Kind) → fault_at_place o pc ≡ None → slice_get o.code pc ≡ Some (Ret a) → before o.code pc ≡ Some s → at s.registers a ≡ Some k → return_kind o ≡ Some k
+pub returns_its_kind : (o : Object) (pc : ℕ) (s : Shape) (a : Reg) (k : Kind) → fault_at_index o pc ≡ None → slice_get o.code pc ≡ Some (Ret a) → before o.code pc ≡ Some s → at s.registers a ≡ Some k → return_kind o ≡ Some k
 returns_its_kind o pc s a k none there is set =
     let inside : pc < length o.code = slice_get_within o.code pc (Ret a) there in
     kind_kept o.code (suc pc) (length o.code) k

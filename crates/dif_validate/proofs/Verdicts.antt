@@ -10,24 +10,24 @@ use Rattle.dif_validate.specs.declared.fault.DifFault.TheVariants.{OutOfCode, Re
 use Rattle.dif_validate.specs.declared.fault.DifFault.TheVariants.{TupleShape, TableIndex, Variable}
 use Rattle.dif_validate.specs.declared.fault.DifFault.TheVariants.{Memory}
 use Rattle.dif_validate.specs.declared.instruction.Instr.{Instr}
-use Rattle.dif_validate.specs.Faults.{fault_there, fault_at_place}
+use Rattle.dif_validate.specs.Faults.{fault_there, fault_at_index}
 use Rattle.dif_validate.specs.Objects.{Object}
 use Rattle.dif_validate.specs.Validity.{is_closed, IsFirst, IsInvalid, IsValid}
-use Rattle.dif_validate.proofs.Faultless.{AreOfPlace, fault_placed, refused}
+use Rattle.dif_validate.proofs.Faultless.{AreOfIndex, fault_placed, refused}
 
 -- ---- there is one
 
--- no place before n has a fault, or one is the first
-found : (o : Object) (n : ℕ) → ((q : ℕ) → q < n → fault_at_place o q ≡ None) ⊎ ((pc : ℕ) × (fault : DifFault) × IsFirst o pc fault)
+-- no index before n has a fault, or one is the first
+found : (o : Object) (n : ℕ) → ((q : ℕ) → q < n → fault_at_index o q ≡ None) ⊎ ((pc : ℕ) × (fault : DifFault) × IsFirst o pc fault)
 found o zero = inl (λ q less. absurd (omega (arith, less)))
-found o (suc n) = ⊎_elim (λ none. at_last none (fault_at_place o n) refl) inr (found o n)
+found o (suc n) = ⊎_elim (λ none. at_last none (fault_at_index o n) refl) inr (found o n)
   where
-    at_last : ((q : ℕ) → q < n → fault_at_place o q ≡ None) → (w : Option DifFault) → fault_at_place o n ≡ w
-        → ((q : ℕ) → q < suc n → fault_at_place o q ≡ None) ⊎ ((pc : ℕ) × (fault : DifFault) × IsFirst o pc fault)
+    at_last : ((q : ℕ) → q < n → fault_at_index o q ≡ None) → (w : Option DifFault) → fault_at_index o n ≡ w
+        → ((q : ℕ) → q < suc n → fault_at_index o q ≡ None) ⊎ ((pc : ℕ) × (fault : DifFault) × IsFirst o pc fault)
     at_last none None e =
         inl (λ q less.
         ⊎_elim (none q)
-        (λ (more : n ≤ q). let same : n ≡ q = omega arith in subst (λ p. fault_at_place o p ≡ None) same e)
+        (λ (more : n ≤ q). let same : n ≡ q = omega arith in subst (λ p. fault_at_index o p ≡ None) same e)
         (cases_lt q n))
     at_last none (Some fault) e = inr (n, fault, record { here = e; earlier = none })
 
@@ -45,7 +45,7 @@ closed_verdict o closed =
     (λ (f : (pc : ℕ) × (fault : DifFault) × IsFirst o pc fault).
     inr (
       f.1,
-      λ memory. subst AreOfPlace (f.2.here ∙ ap Some memory) (fault_placed o f.0 (slice_get o.code f.0)),
+      λ memory. subst AreOfIndex (f.2.here ∙ ap Some memory) (fault_placed o f.0 (slice_get o.code f.0)),
       refused o f.0 f.1 closed f.2,
     ))
     (found o (length o.code))
@@ -80,7 +80,7 @@ reason o (Variable pc) not_memory h = faulty h.0 h.1 h.2
 empty_is_open : (code : List Instr) → code ≡ [] → is_closed code ≡ true → ⊥
 empty_is_open code e closed = let f : is_closed [] ≡ true = ap is_closed (sym e) ∙ closed in cc
 
--- the fault at the lesser place is the first
+-- the fault at the lesser index is the first
 ordered : (o : Object) (p q : ℕ) (a b : DifFault) → p < q → IsFirst o p a → IsFirst o q b → ⊥
 ordered o p q a b less first other = let e : ◌≡◌ {A = Option DifFault} (Some a) None = sym first.here ∙ other.earlier p less in cc
 
@@ -93,7 +93,7 @@ one_first o p q a b first other =
     (λ (less : q < p). absurd (ordered o q p b a less other first))
     (λ (down : p ≤ q).
     let same : p ≡ q = omega arith in
-    let e : ◌≡◌ {A = Option DifFault} (Some a) (Some b) = sym first.here ∙ ap (fault_at_place o) same ∙ other.here in cc)
+    let e : ◌≡◌ {A = Option DifFault} (Some a) (Some b) = sym first.here ∙ ap (fault_at_index o) same ∙ other.here in cc)
     (cases_lt q p))
     (cases_lt p q)
 

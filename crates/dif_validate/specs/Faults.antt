@@ -1,4 +1,4 @@
--- The fault of an instruction at its place: of several the first in the order of `DifFault`.
+-- The fault of an instruction at its index: of several the first in the order of `DifFault`.
 use Rattle.std.specs.Prelude.{ℕ, Bool, true, false, not, ◌||◌, nat_le, nat_lt, if◌then◌else◌, List}
 use Rattle.std.specs.Prelude.{length, Option, Some, None, slice_get}
 use Rattle.dif_validate.specs.Vocabulary.{DifFault, Backward, OutOfCode, RegisterKind, Unset}
@@ -22,7 +22,7 @@ abbrev pub is_at_least : Option ℕ → ℕ → Bool
 is_at_least None n = false
 is_at_least (Some to) n = nat_le n to
 
--- an instruction branches to its own place or to an earlier one
+-- an instruction branches to its own index or to an earlier one
 abbrev pub goes_back : Instr → ℕ → Bool
 goes_back i pc = is_at_most (jump_target i) pc
 
@@ -107,5 +107,5 @@ abbrev pub fault_there : Object → ℕ → Option Instr → Option DifFault
 fault_there o pc None = None
 fault_there o pc (Some i) = fault_of_instr o pc i (first_kind_before o.code pc) (before o.code pc)
 
-abbrev pub fault_at_place : Object → ℕ → Option DifFault
-fault_at_place o pc = fault_there o pc (slice_get o.code pc)
+abbrev pub fault_at_index : Object → ℕ → Option DifFault
+fault_at_index o pc = fault_there o pc (slice_get o.code pc)

@@ -1,4 +1,4 @@
--- Where an instruction leads, and what is known at the places that ways lead to.
+-- Where an instruction leads, and what is known at the indices that ways lead to.
 -- Source: Cantrill, Shapiro and Leventhal, "Dynamic Instrumentation of Production Systems" (USENIX
 -- 2004), on DIF.
 use Rattle.std.specs.Prelude.{ℕ, zero, suc, ◌+◌, Bool, true, false, ◌&&◌, nat_eq, if◌then◌else◌}
@@ -28,13 +28,13 @@ flow_target (Jump to) = Some to
 flow_target (Either to) = Some to
 flow_target (End a) = None
 
--- the place that it jumps to
+-- the index that it jumps to
 abbrev pub jump_target : Instr → Option ℕ
 jump_target i = flow_target (flow i)
 
-abbrev pub is_place : Option ℕ → ℕ → Bool
-is_place None pc = false
-is_place (Some to) pc = nat_eq to pc
+abbrev pub is_index : Option ℕ → ℕ → Bool
+is_index None pc = false
+is_index (Some to) pc = nat_eq to pc
 
 -- what is known by one way, by another, or by both
 abbrev pub join : Option Shape → Option Shape → Option Shape
@@ -49,7 +49,7 @@ to_next i q s pc =
 
 -- and as its target
 abbrev pub to_target : Instr → Shape → ℕ → Option Shape
-to_target i s pc = if is_place (jump_target i) pc then Some (leaves i s) else None
+to_target i s pc = if is_index (jump_target i) pc then Some (leaves i s) else None
 
 -- what is known at pc by one instruction more, that at q, if it is reached
 abbrev pub further : Option Shape → Option Instr → ℕ → Option Shape → ℕ → Option Shape

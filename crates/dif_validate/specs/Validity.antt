@@ -7,7 +7,7 @@ use Rattle.dif_validate.specs.Vocabulary.{DifFault, Empty, NoReturn, Backward, O
 use Rattle.dif_validate.specs.Vocabulary.{RegisterKind, Unset, TupleShape, TableIndex, Variable}
 use Rattle.dif_validate.specs.Vocabulary.{Memory, Flow, Next, Jump, Either, End, Instr, Kind}
 use Rattle.dif_validate.specs.Vocabulary.{Object}
-use Rattle.dif_validate.specs.Faults.{fault_at_place}
+use Rattle.dif_validate.specs.Faults.{fault_at_index}
 use Rattle.dif_validate.specs.Flow.{flow}
 use Rattle.dif_validate.specs.Returns.{return_kind}
 
@@ -28,12 +28,12 @@ is_closed code = is_return (slice_get code (length code - 1))
 -- no instruction has a fault
 pub record IsValid (o : Object) : Type 0 where
   pub closed : is_closed o.code ≡ true
-  pub each : (pc : ℕ) → fault_at_place o pc ≡ None
+  pub each : (pc : ℕ) → fault_at_index o pc ≡ None
 
--- the fault is at this place, and none before it
+-- the fault is at this index, and none before it
 pub record IsFirst (o : Object) (pc : ℕ) (fault : DifFault) : Type 0 where
-  pub here : fault_at_place o pc ≡ Some fault
-  pub earlier : (q : ℕ) → q < pc → fault_at_place o q ≡ None
+  pub here : fault_at_index o pc ≡ Some fault
+  pub earlier : (q : ℕ) → q < pc → fault_at_index o q ≡ None
 
 -- the last instruction returns, and the first instruction with a fault has this one
 abbrev pub IsFirstFault : Object → DifFault → Type 0

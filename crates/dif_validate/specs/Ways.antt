@@ -9,13 +9,13 @@ use Rattle.dif_validate.specs.Shapes.{first_shape}
 abbrev pub LeadsTo : Instr → (q pc : ℕ) → Type 0
 LeadsTo i q pc = ((falls i ≡ true) × (pc ≡ q + 1)) ⊎ (jump_target i ≡ Some pc)
 
--- a way from the first instruction forward to a place, and what is known by it alone
+-- a way from the first instruction forward to an index, and what is known by it alone
 pub data Way (code : List Instr) : ℕ → Shape → Type 0 where
   begins : Way code 0 first_shape
   goes_on : {q : ℕ} {s : Shape} (i : Instr) (pc : ℕ) → Way code q s → slice_get code q ≡ Some i
       → LeadsTo i q pc → q < pc → Way code pc (leaves i s)
 
--- each way that leads to a place makes this known
+-- each way that leads to an index makes this known
 abbrev pub OnAllWays : List Instr → ℕ → (Shape → Type 0) → Type 0
 OnAllWays code pc Known = (s : Shape) → Way code pc s → Known s
 

@@ -15,7 +15,7 @@ pub enum DifFault {
     Empty,
     /// The last instruction is not `ret`.
     NoReturn,
-    /// A branch to its own place or to an earlier one.
+    /// A branch to its own index or to an earlier one.
     Backward { pc: usize },
     /// A branch past the last instruction.
     OutOfCode { pc: usize },
@@ -34,7 +34,7 @@ pub enum DifFault {
 }
 
 impl DifFault {
-    // The place that it names.
+    // The index that it names.
     fn pc(self) -> Option<usize> {
         match self {
             DifFault::Backward { pc }
@@ -48,7 +48,7 @@ impl DifFault {
         }
     }
 
-    // What is wrong, without the place.
+    // What is wrong, without the index.
     fn message(self) -> &'static str {
         match self {
             DifFault::Empty => "no instructions",

@@ -1,5 +1,5 @@
 //! Instructions, each with its meaning as an equation: `a`, `b` and `d` are registers, `pc` is the
-//! place of the next instruction, and `tuple` is a list of at most 8 integers and texts.
+//! index of the next instruction, and `tuple` is a list of at most 8 integers and texts.
 
 use crate::register::Reg;
 use d_values::Var;

@@ -16,7 +16,7 @@ use crate::shape::Shape;
 use d_values::Kind;
 use std::alloc::{AllocError, Global};
 
-// What is known at each place before the first instruction.
+// What is known at each index before the first instruction.
 fn start(alloc: Global, size: usize) -> Result<Vec<Option<Shape>>, AllocError>
     ensures long { IfOk result (λ ways. length ways.items ≡ size) }
     ensures known { IfOk result (λ ways. (pc : ℕ) → pc < size
@@ -33,7 +33,7 @@ fn start(alloc: Global, size: usize) -> Result<Vec<Option<Shape>>, AllocError>
     Ok(ways)
 }
 
-// Makes a shape known at a place.
+// Makes a shape known at an index.
 fn meet_at(ways: &mut Vec<Option<Shape>>, to: usize, shape: Shape)
     requires { to < length ways.old.items }
     ensures long { length ways.new.items ≡ length ways.old.items }

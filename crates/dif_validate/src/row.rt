@@ -26,9 +26,9 @@ pub enum Asks {
 pub enum Named {
     /// Nothing.
     NoName,
-    /// A place in the table of numbers.
+    /// An index in the table of numbers.
     NumberAt(usize),
-    /// A place in the table of texts.
+    /// An index in the table of texts.
     TextAt(usize),
     /// A built-in variable.
     VariableAt(u8),
@@ -73,9 +73,9 @@ pub enum Change {
 pub enum Flow {
     /// To the next instruction.
     Next,
-    /// To a place.
+    /// To an index.
     Jump(usize),
-    /// To a place or to the next instruction, as the comparison says.
+    /// To an index or to the next instruction, as the comparison says.
     Either(usize),
     /// Nowhere: the run ends with what the register holds.
     End(Reg),

@@ -50,14 +50,14 @@ after_is rest end after r is split = split ∙ ap (λ (l : List ℕ). take 1 l +
 pub chunk_is : (rest : List ℕ) (end : ℕ) (r : List ℕ) (e : ℕ) → rest ≡ end ∷ r → take (e + 1) rest ≡ end ∷ take e r
 chunk_is rest end r e is = rw (is, add-one) refl
 
--- what is left from a place on
+-- what is left from an index on
 pub left_from : (x rest : List ℕ) (end : ℕ) (r : List ℕ) (e at : ℕ) → Leaves x rest → rest ≡ end ∷ r → at ≡ (length x - length rest) + e → drop (at + 1) x ≡ drop e r
-left_from x rest end r e at h is place =
+left_from x rest end r e at h is index =
     let after : h.after ≡ r = cc (h.is_rest, is) in
     let size = ap length h.is_bytes in
     let both = length-append h.front h.after in
     let one = ap length h.is_rest in
-    let next : at + 1 ≡ suc (length h.front + e) = omega (arith, place, size, both, one) in
+    let next : at + 1 ≡ suc (length h.front + e) = omega (arith, index, size, both, one) in
     ap (λ (n : ℕ). drop n x) next ∙ ap (λ (l : List ℕ). drop (suc (length h.front + e)) l) h.is_bytes ∙ drop-append-add h.front h.after e ∙ ap (drop e) after
 
 -- ---- rows
@@ -107,12 +107,12 @@ unfolding rows_of
 none_read = ([], refl)
 
 pub begins_plain : (x rest : List ℕ) (fs : List Firing) (at : ℕ) → fs ≡ [] → BeginsAtEnd rest → x ≡ header_line ++ rest → at ≡ length x - length rest → Begins x fs (10 ∷ drop (at + 1) x)
-begins_plain x rest fs at none (end, after, is, is_end) header place =
+begins_plain x rest fs at none (end, after, is, is_end) header index =
     let all : x ≡ header_line ++ end ∷ after = header ∙ ap (λ (l : List ℕ). header_line ++ l) is in
     let size = ap length all in
     let both = length-append header_line (end ∷ after) in
     let one = ap length is in
-    let next : at + 1 ≡ length header_line + 1 = omega (arith, place, size, both, one) in
+    let next : at + 1 ≡ length header_line + 1 = omega (arith, index, size, both, one) in
     let left : drop (at + 1) x ≡ after = ap (λ (n : ℕ). drop n x) next ∙ ap (drop (length header_line + 1)) all ∙ drop-append-add header_line (end ∷ after) 1 in
     rw (none, left) (record {
       feed = (after, refl);
@@ -123,16 +123,16 @@ begins_plain x rest fs at none (end, after, is, is_end) header place =
 
 -- ---- a header that csv reads
 
--- the front of bytes up to a place, and all of them, without their byte order mark
+-- the front of bytes up to an index, and all of them, without their byte order mark
 record IsCut (x : List ℕ) (end : ℕ) (text : List ℕ) : Type 0 where
   front : strip_bom (take end x) ≡ text
   all : (tail : List ℕ) → strip_bom (x ++ tail) ≡ text ++ (drop end x ++ tail)
 
 mark_cut : (a b c : ℕ) (rest : List ℕ) (end e : ℕ) → ((xs : List ℕ) → strip_bom (a ∷ b ∷ c ∷ xs) ≡ xs) → end ≡ (length (a ∷ b ∷ c ∷ rest) - length (strip_bom (a ∷ b ∷ c ∷ rest))) + e
     → IsCut (a ∷ b ∷ c ∷ rest) end (take e (strip_bom (a ∷ b ∷ c ∷ rest)))
-mark_cut a b c rest end e s place =
+mark_cut a b c rest end e s index =
     let size = ap length (s rest) in
-    let is : end ≡ suc (suc (suc e)) = omega (arith, place, size) in
+    let is : end ≡ suc (suc (suc e)) = omega (arith, index, size) in
     record {
       front = ap (λ (n : ℕ). strip_bom (take n (a ∷ b ∷ c ∷ rest))) is ∙ s (take e rest) ∙ ap (take e) (sym (s rest));
       all = λ tail. s (rest ++ tail) ∙ ap (λ (l : List ℕ). l ++ tail) (sym (take-append-drop e rest)) ∙ append_assoc (take e rest) (drop e rest) tail
@@ -142,10 +142,10 @@ mark_cut a b c rest end e s place =
 
 other_cut : (a b c : ℕ) (rest : List ℕ) (end e : ℕ) → ((xs : List ℕ) → strip_bom (a ∷ b ∷ c ∷ xs) ≡ a ∷ b ∷ c ∷ xs) → 3 < end → end ≡ (length (a ∷ b ∷ c ∷ rest) - length (strip_bom (a ∷ b ∷ c ∷ rest))) + e
     → IsCut (a ∷ b ∷ c ∷ rest) end (take e (strip_bom (a ∷ b ∷ c ∷ rest)))
-other_cut a b c rest end e s many place =
+other_cut a b c rest end e s many index =
     let x = a ∷ b ∷ c ∷ rest in
     let size = ap length (s rest) in
-    let same : end ≡ e = omega (arith, place, size) in
+    let same : end ≡ e = omega (arith, index, size) in
     let is : end ≡ suc (suc (suc (end - 3))) = omega arith in
     record {
       front = ap (λ (n : ℕ). strip_bom (take n x)) is ∙ s (take (end - 3) rest) ∙ ap (λ (n : ℕ). take n x) (sym is) ∙ ap (λ (n : ℕ). take n x) same ∙ ap (take e) (sym (s rest));
@@ -155,14 +155,14 @@ other_cut a b c rest end e s many place =
 
 cut_at : (x : List ℕ) (end e : ℕ) → 3 < end → end ≡ (length x - length (strip_bom x)) + e → e ≤ length (strip_bom x) → IsCut x end (take e (strip_bom x))
 unfolding strip_bom
-cut_at [] end e many place few = absurd (omega (arith, place, few))
-cut_at (a ∷ []) end e many place few = absurd (omega (arith, place, few))
-cut_at (a ∷ b ∷ []) end e many place few = absurd (omega (arith, place, few))
-cut_at (a ∷ b ∷ c ∷ rest) end e many place few = by (is_bom a b c) refl
+cut_at [] end e many index few = absurd (omega (arith, index, few))
+cut_at (a ∷ []) end e many index few = absurd (omega (arith, index, few))
+cut_at (a ∷ b ∷ []) end e many index few = absurd (omega (arith, index, few))
+cut_at (a ∷ b ∷ c ∷ rest) end e many index few = by (is_bom a b c) refl
   where
     by : (m : Bool) → is_bom a b c ≡ m → IsCut (a ∷ b ∷ c ∷ rest) end (take e (strip_bom (a ∷ b ∷ c ∷ rest)))
-    by true m = mark_cut a b c rest end e (λ xs. cond-true (is_bom a b c) xs (a ∷ b ∷ c ∷ xs) m) place
-    by false m = other_cut a b c rest end e (λ xs. cond-false (is_bom a b c) xs (a ∷ b ∷ c ∷ xs) m) many place
+    by true m = mark_cut a b c rest end e (λ xs. cond-true (is_bom a b c) xs (a ∷ b ∷ c ∷ xs) m) index
+    by false m = other_cut a b c rest end e (λ xs. cond-false (is_bom a b c) xs (a ∷ b ∷ c ∷ xs) m) many index
 
 records_are : (xs : List ℕ) → records default_config xs ≡ left_in st.StartRecord (Some xs)
 unfolding left_in
@@ -171,7 +171,7 @@ records_are xs = refl
 abbrev left : List ℕ → List (List (List ℕ))
 left xs = left_in st.StartRecord (Some xs)
 
--- the records of all bytes, by those up to a place where rows end
+-- the records of all bytes, by those up to an index where rows end
 cut_records : (x : List ℕ) (end : ℕ) (text : List ℕ) → IsCut x end text → RowsEnd text → (tail : List ℕ) → records default_config (strip_bom (x ++ tail)) ≡ left text ++ left (drop end x ++ tail)
 cut_records x end text cut ends tail = ap (records default_config) (cut.all tail) ∙ records_are (text ++ (drop end x ++ tail)) ∙ ends (drop end x ++ tail)
 
@@ -180,9 +180,9 @@ own_records x end text cut = ap (records default_config) cut.front ∙ records_a
 
 pub begins_csv : (x : List ℕ) (end e : ℕ) (fs : List Firing) → 3 < end → end ≡ (length x - length (strip_bom x)) + e → e ≤ length (strip_bom x) → RowsEnd (take e (strip_bom x)) → trace_of (take end x) ≡ Ok fs
     → Begins x fs (10 ∷ drop end x)
-begins_csv x end e fs many place few ends read =
+begins_csv x end e fs many index few ends read =
     let text = take e (strip_bom x) in
-    let cut = cut_at x end e many place few in
+    let cut = cut_at x end e many index few in
     let own : trace_in (left text) ≡ Ok fs = ap trace_in (sym (own_records x end text cut)) ∙ read in
     record {
       feed = (drop end x, refl);
@@ -192,17 +192,17 @@ begins_csv x end e fs many place few ends read =
 
 fault_csv : (x : List ℕ) (end e : ℕ) (f : TraceFault) → 3 < end → end ≡ (length x - length (strip_bom x)) + e → e ≤ length (strip_bom x) → RowsEnd (take e (strip_bom x))
     → trace_of (take end x) ≡ Err f → records default_config (strip_bom (take end x)) ≢ [] → (tail : List ℕ) → trace_of (x ++ tail) ≡ Err f
-fault_csv x end e f many place few ends read some tail =
+fault_csv x end e f many index few ends read some tail =
     let text = take e (strip_bom x) in
-    let cut = cut_at x end e many place few in
+    let cut = cut_at x end e many index few in
     let own = own_records x end text cut in
     let faulty : trace_in (left text) ≡ Err f = ap trace_in (sym own) ∙ read in
     ap trace_in (cut_records x end text cut ends tail) ∙ trace_err (left text) (left (drop end x ++ tail)) f (λ none. some (own ∙ none)) faulty
 
 pub fault_of_header : (x : List ℕ) (end e : ℕ) (f : TraceFault) → 3 < end → end ≡ (length x - length (strip_bom x)) + e → e ≤ length (strip_bom x) → RowsEnd (take e (strip_bom x))
     → (f ≡ Memory) ⊎ ((trace_of (take end x) ≡ Err f) × (records default_config (strip_bom (take end x)) ≢ [])) → IsFaultOf f (λ tail. trace_of (x ++ tail))
-fault_of_header x end e f many place few ends (inl memory) = inl memory
-fault_of_header x end e f many place few ends (inr (read, some)) = inr (fault_csv x end e f many place few ends read some)
+fault_of_header x end e f many index few ends (inl memory) = inl memory
+fault_of_header x end e f many index few ends (inr (read, some)) = inr (fault_csv x end e f many index few ends read some)
 
 -- ---- a reader
 
@@ -215,7 +215,7 @@ kept_more (stage.Refused e) fs x block h = h
 abbrev pub with_left : Stage → List Firing → List ℕ → Taken
 with_left s fs x = record { stage = s; firings = fs; left = x }
 
--- the bytes up to a place after the first
+-- the bytes up to an index after the first
 pub kept_front : (s : Stage) (fs : List Firing) (x : List ℕ) (at : ℕ) → (0 < length x → 0 < at) → IsKeptAt s fs x → IsKeptAt s fs (take at x)
 kept_front stage.Header fs x at some h = h
 kept_front stage.Rows fs x zero some ((after, is), are_read) = absurd (omega (arith, some (omega (arith, ap length is))))

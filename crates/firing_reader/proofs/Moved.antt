@@ -10,7 +10,7 @@ use Rattle.firings.specs.declared.stored_row.Given.{Given}
 use Rattle.firings.specs.declared.stored_row.Row.{Row}
 use Rattle.firings.specs.declared.unit.Owner.{Owner}
 use Rattle.firings.specs.declared.unit.Probe.{Probe}
-use Rattle.firings.specs.Stored.{ArePlaces, Extends, IsRowIn, count_of, firing_in, moved_given}
+use Rattle.firings.specs.Stored.{AreIndices, Extends, IsRowIn, count_of, firing_in, moved_given}
 use Rattle.firing_reader.specs.Steps.Stored.{IsMovable}
 use Rattle.firings.specs.Stored.{first_of, no_owner, no_probe}
 use Rattle.firing_reader.specs.Steps.Stored.{moved_row}
@@ -23,7 +23,7 @@ first_moved g shift = omega arith
 count_moved : (g : Given) (shift : ℕ) → count_of (moved_given shift g) ≡ count_of g
 count_moved g shift = omega arith
 
-pub all_movable : (q os : List Owner) (qs : List ℕ) (u ps : List Probe) (us : List ℕ) (a o : List ℤ) (rs : List Row) → ArePlaces q qs os → ArePlaces u us ps
+pub all_movable : (q os : List Owner) (qs : List ℕ) (u ps : List Probe) (us : List ℕ) (a o : List ℤ) (rs : List Row) → AreIndices q qs os → AreIndices u us ps
     → length (a ++ o) < 2 ^ 28 → All (IsRowIn os ps o) rs → All (IsMovable qs us (length a)) rs
 all_movable q os qs u ps us a o rs to tp few all = λ k d within. one (get_or rs k d) (all k d within)
   where
@@ -41,7 +41,7 @@ drop-append-from a o n =
     let swap : n + length a ≡ length a + n = omega arith in
     rw swap (drop-append-add a o n)
 
-moved_in : (q os : List Owner) (qs : List ℕ) (u ps : List Probe) (us : List ℕ) (a o : List ℤ) (r : Row) → ArePlaces q qs os → ArePlaces u us ps → IsRowIn os ps o r
+moved_in : (q os : List Owner) (qs : List ℕ) (u ps : List Probe) (us : List ℕ) (a o : List ℤ) (r : Row) → AreIndices q qs os → AreIndices u us ps → IsRowIn os ps o r
     → IsRowIn q u (a ++ o) (moved_row qs us (length a) r)
 moved_in q os qs u ps us a o r to tp h =
     let size = length-append a o in
@@ -51,7 +51,7 @@ moved_in q os qs u ps us a o r to tp h =
       given = omega (arith, size, h.given, first_moved r.given (length a), count_moved r.given (length a));
     }
 
-moved_same : (q os : List Owner) (qs : List ℕ) (u ps : List Probe) (us : List ℕ) (a o : List ℤ) (r : Row) → ArePlaces q qs os → ArePlaces u us ps → IsRowIn os ps o r
+moved_same : (q os : List Owner) (qs : List ℕ) (u ps : List Probe) (us : List ℕ) (a o : List ℤ) (r : Row) → AreIndices q qs os → AreIndices u us ps → IsRowIn os ps o r
     → firing_in q u (a ++ o) (moved_row qs us (length a) r) ≡ firing_in os ps o r
 moved_same q os qs u ps us a o r to tp h =
     rw (
@@ -62,13 +62,13 @@ moved_same q os qs u ps us a o r to tp h =
       drop-append-from a o (first_of r.given),
     ) refl
 
-all_moved_in : (q os : List Owner) (qs : List ℕ) (u ps : List Probe) (us : List ℕ) (a o : List ℤ) (rs : List Row) → ArePlaces q qs os → ArePlaces u us ps
+all_moved_in : (q os : List Owner) (qs : List ℕ) (u ps : List Probe) (us : List ℕ) (a o : List ℤ) (rs : List Row) → AreIndices q qs os → AreIndices u us ps
     → All (IsRowIn os ps o) rs → All (IsRowIn q u (a ++ o)) (map (moved_row qs us (length a)) rs)
 all_moved_in q os qs u ps us a o [] to tp all = All-nil (IsRowIn q u (a ++ o))
 all_moved_in q os qs u ps us a o (r ∷ rs) to tp all =
     All-cons (IsRowIn q u (a ++ o)) _ _ (moved_in q os qs u ps us a o r to tp (All-head (IsRowIn os ps o) r rs all)) (all_moved_in q os qs u ps us a o rs to tp (All-tail (IsRowIn os ps o) r rs all))
 
-all_moved_same : (q os : List Owner) (qs : List ℕ) (u ps : List Probe) (us : List ℕ) (a o : List ℤ) (rs : List Row) → ArePlaces q qs os → ArePlaces u us ps
+all_moved_same : (q os : List Owner) (qs : List ℕ) (u ps : List Probe) (us : List ℕ) (a o : List ℤ) (rs : List Row) → AreIndices q qs os → AreIndices u us ps
     → All (IsRowIn os ps o) rs → map (firing_in q u (a ++ o)) (map (moved_row qs us (length a)) rs) ≡ map (firing_in os ps o) rs
 all_moved_same q os qs u ps us a o [] to tp all = refl
 all_moved_same q os qs u ps us a o (r ∷ rs) to tp all =
@@ -76,19 +76,19 @@ all_moved_same q os qs u ps us a o (r ∷ rs) to tp all =
 
 -- what stands after rows that were taken over
 pub followed_in : (x q os : List Owner) (qs : List ℕ) (y u ps : List Probe) (us : List ℕ) (a o : List ℤ) (rs more : List Row) → Extends x q → Extends y u
-    → ArePlaces q qs os → ArePlaces u us ps → All (IsRowIn x y a) rs → All (IsRowIn os ps o) more → All (IsRowIn q u (a ++ o)) (rs ++ map (moved_row qs us (length a)) more)
+    → AreIndices q qs os → AreIndices u us ps → All (IsRowIn x y a) rs → All (IsRowIn os ps o) more → All (IsRowIn q u (a ++ o)) (rs ++ map (moved_row qs us (length a)) more)
 followed_in x q os qs y u ps us a o rs more ex ey to tp own others =
     All-append (IsRowIn q u (a ++ o)) rs (map (moved_row qs us (length a)) more) (rows_more x q y u a (a ++ o) rs ex ey (o, refl) own) (all_moved_in q os qs u ps us a o more to tp others)
 
 pub followed_same : (x q os : List Owner) (qs : List ℕ) (y u ps : List Probe) (us : List ℕ) (a o : List ℤ) (rs more : List Row) → Extends x q → Extends y u
-    → ArePlaces q qs os → ArePlaces u us ps → All (IsRowIn x y a) rs → All (IsRowIn os ps o) more
+    → AreIndices q qs os → AreIndices u us ps → All (IsRowIn x y a) rs → All (IsRowIn os ps o) more
     → map (firing_in q u (a ++ o)) (rs ++ map (moved_row qs us (length a)) more) ≡ map (firing_in x y a) rs ++ map (firing_in os ps o) more
 followed_same x q os qs y u ps us a o rs more ex ey to tp own others =
     rw (map-append (firing_in q u (a ++ o)) rs (map (moved_row qs us (length a)) more), seen_all x q y u a (a ++ o) rs ex ey (o, refl) own, all_moved_same q os qs u ps us a o more to tp others) refl
 
 -- where memory was there for the rows of others, they stand after those of its own
 pub appended_in : (r : Option (Unit {0})) (x q os : List Owner) (qs : List ℕ) (y u ps : List Probe) (us : List ℕ) (a o b : List ℤ) (rs more new : List Row) → Extends x q → Extends y u
-    → ArePlaces q qs os → ArePlaces u us ps → b ≡ a ++ o → All (IsRowIn x y a) rs → All (IsRowIn os ps o) more
+    → AreIndices q qs os → AreIndices u us ps → b ≡ a ++ o → All (IsRowIn x y a) rs → All (IsRowIn os ps o) more
     → MatchOption r (new ≡ rs) (λ _. new ≡ rs ++ map (moved_row qs us (length a)) more) → All (IsRowIn q u b) new
 appended_in None x q os qs y u ps us a o b rs more new ex ey to tp all own others is =
     rw (is, all) (rows_more x q y u a (a ++ o) rs ex ey (o, refl) own)
@@ -96,7 +96,7 @@ appended_in (Some t) x q os qs y u ps us a o b rs more new ex ey to tp all own o
     rw (is, all) (followed_in x q os qs y u ps us a o rs more ex ey to tp own others)
 
 pub appended_same : (r : Option (Unit {0})) (x q os : List Owner) (qs : List ℕ) (y u ps : List Probe) (us : List ℕ) (a o b : List ℤ) (rs more new : List Row) → Extends x q → Extends y u
-    → ArePlaces q qs os → ArePlaces u us ps → b ≡ a ++ o → All (IsRowIn x y a) rs → All (IsRowIn os ps o) more
+    → AreIndices q qs os → AreIndices u us ps → b ≡ a ++ o → All (IsRowIn x y a) rs → All (IsRowIn os ps o) more
     → MatchOption r (new ≡ rs) (λ _. new ≡ rs ++ map (moved_row qs us (length a)) more)
     → IfSome r (λ _. map (firing_in q u b) new ≡ map (firing_in x y a) rs ++ map (firing_in os ps o) more)
 appended_same None x q os qs y u ps us a o b rs more new ex ey to tp all own others is = tt

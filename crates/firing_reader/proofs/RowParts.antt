@@ -19,7 +19,7 @@ use Rattle.firing_reader.proofs.PlainFirings.{ReadsNumbers, fields, firing_ok}
 use Rattle.firing_reader.proofs.PlainRows.{closes_more, passes_one, row_read}
 use Rattle.firings.proofs.Stored.{named_at, named_in, rows_more, stored}
 
--- the owner at a place, and the probe at one
+-- the owner at an index, and the probe at one
 owner_there : (os : List Owner) (p : ℕ) (o : Owner) (b r : List ℕ) → slice_get os p ≡ Some o → ReadsOwner b r o
     → ReadsOwner b r (record { thread = (get_or os p no_owner).thread; pid = (get_or os p no_owner).pid; execname = (get_or os p no_owner).execname })
 owner_there os p o b r there h =

@@ -16,7 +16,7 @@ use Rattle.firings.specs.Texts.{text_of}
 use Rattle.firing_reader.specs.Plain.{ReadsOwner, ReadsProbe}
 use Rattle.firing_reader.specs.Column.{Whole, value_of}
 use Rattle.firing_reader.specs.Steps.Plain.{BeginsWith}
-use Rattle.firings.specs.Stored.{ArePlaces, Extends}
+use Rattle.firings.specs.Stored.{AreIndices, Extends}
 use Rattle.firing_reader.specs.UnitTable.{IsReadIn}
 use Rattle.firings.specs.Units.{IsProbeIn, IsTextIn, IsUnitIn, name_at, owner_in, part, probe_in}
 use Rattle.firings.specs.Units.{probefunc_at, probemod_at, unit_in}
@@ -63,20 +63,20 @@ units_there I R b ks all = λ i d within. (all i d within).unit
 pub seen_extends : {X Y : Type 0} (f : X → Y) (xs ys : List X) → Extends xs ys → Extends (map f xs) (map f ys)
 seen_extends f xs ys (more, is) = (map f more, ap (map f) is ∙ map-append f xs more)
 
-pub seen_places : {X Y : Type 0} (f : X → Y) (all : List X) (places : List ℕ) (others : List X) → ArePlaces all places others → ArePlaces (map f all) places (map f others)
-seen_places f all [] [] are = refl
-seen_places f all [] (x ∷ xs) are = absurd cc
-seen_places f all (p ∷ ps) [] are = absurd cc
-seen_places f all (p ∷ ps) (x ∷ xs) are =
+pub seen_indices : {X Y : Type 0} (f : X → Y) (all : List X) (indices : List ℕ) (others : List X) → AreIndices all indices others → AreIndices (map f all) indices (map f others)
+seen_indices f all [] [] are = refl
+seen_indices f all [] (x ∷ xs) are = absurd cc
+seen_indices f all (p ∷ ps) [] are = absurd cc
+seen_indices f all (p ∷ ps) (x ∷ xs) are =
     let first : slice_get all p ≡ Some x = cc in
-    let more : ArePlaces all ps xs = cc in
-    rw (seen_at f all p x first, seen_places f all ps xs more) refl
+    let more : AreIndices all ps xs = cc in
+    rw (seen_at f all p x first, seen_indices f all ps xs more) refl
 
 pub seen_kept : {X Y : Type 0} (f : X → Y) (all : List X) (x : X) (y : Y) (found : Option ℕ) → f x ≡ y → IfSome found (λ p. slice_get all p ≡ Some x) → IfSome found (λ p. slice_get (map f all) p ≡ Some y)
 seen_kept f all x y None is there = tt
 seen_kept {X} {Y} f all x y (Some p) is there = seen_at f all p x there ∙ ap (λ (z : Y). Some z) is
 
--- what is at a place
+-- what is at an index
 pub one_there : {X : Type 0} (xs : List X) (i : ℕ) → i < length xs → (x : X) × (slice_get xs i ≡ Some x)
 one_there [] i lt = absurd (omega arith)
 one_there (x ∷ xs) zero lt = (x, refl)
@@ -99,10 +99,10 @@ part_first bytes text rest count is many own =
     record { inside = omega (arith, size, both, many); is = rw (is, many) (take-append_seam text rest); own = own }
 
 part_next : (bytes first more text : List ℕ) (c begin at count : ℕ) → bytes ≡ first ++ c ∷ more → at ≡ length first + suc begin → IsPart more begin count text → IsPart bytes at count text
-part_next bytes first more text c begin at count is place h =
+part_next bytes first more text c begin at count is index h =
     let size = ap length is in
     let both = length-append first (c ∷ more) in
-    record { inside = omega (arith, size, both, place, h.inside); is = rw (is, place, drop-append-add first (c ∷ more) (suc begin)) h.is; own = h.own }
+    record { inside = omega (arith, size, both, index, h.inside); is = rw (is, index, drop-append-add first (c ∷ more) (suc begin)) h.is; own = h.own }
 
 -- the text that a field writes is the field
 pub own_field : (field text : List ℕ) → text_of field ≡ Some text → (field ≡ text) × (text_of text ≡ Some text)
@@ -115,23 +115,23 @@ own_field field text read =
 -- the text after two numbers
 pub owner_text : (b0 b1 b2 rest x3 x4 name : List ℕ) (from count : ℕ) → b0 ≡ x3 ++ 44 ∷ b1 → b1 ≡ x4 ++ 44 ∷ b2 → b2 ≡ name ++ rest → from ≡ length b0 - length b2 → count ≡ length name
     → text_of name ≡ Some name → IsPart b0 from count name
-owner_text b0 b1 b2 rest x3 x4 name from count is0 is1 is2 place many own =
+owner_text b0 b1 b2 rest x3 x4 name from count is0 is1 is2 index many own =
     let size0 = ap length is0 in
     let both0 = length-append x3 (44 ∷ b1) in
     let size1 = ap length is1 in
     let both1 = length-append x4 (44 ∷ b2) in
     let last = part_first b2 name rest count is2 many own in
     let next = part_next b1 x4 b2 name 44 0 (length x4 + suc 0) count is1 refl last in
-    part_next b0 x3 b1 name 44 (length x4 + suc 0) from count is0 (omega (arith, size0, both0, size1, both1, place)) next
+    part_next b0 x3 b1 name 44 (length x4 + suc 0) from count is0 (omega (arith, size0, both0, size1, both1, index)) next
 
 -- the fields of an owner, one after another
 pub owner_parsed : (key b1 b2 b3 : List ℕ) (e : OwnerEntry) (name : List ℕ) → (field : List ℕ) × BeginsWith key field (44 ∷ b1) × (value_of (Whole 1 0x7FFF_FFFF) field ≡ Some e.thread)
     → (field : List ℕ) × BeginsWith b1 field (44 ∷ b2) × (value_of (Whole 0 0x7FFF_FFFF) field ≡ Some e.pid) → (field : List ℕ) × BeginsWith b2 field (44 ∷ b3) × (text_of field ≡ Some name)
     → e.from ≡ length key - length b2 → e.count ≡ length name → b3 ≡ [] → IsTextIn key e.from e.count × ReadsOwner key [] (owner_in (key, e))
-owner_parsed key b1 b2 b3 e name (x3, f3, thread) (x4, f4, pid) (x5, f5, execname) place many none =
+owner_parsed key b1 b2 b3 e name (x3, f3, thread) (x4, f4, pid) (x5, f5, execname) index many none =
     let (same, own) = own_field x5 name execname in
     let split : b2 ≡ name ++ 44 ∷ b3 = rw same at f5.split in
-    let there = owner_text key b1 b2 (44 ∷ b3) x3 x4 name e.from e.count f3.split f4.split split place many own in
+    let there = owner_text key b1 b2 (44 ∷ b3) x3 x4 name e.from e.count f3.split f4.split split index many own in
     let two = passes_more key b1 b2 (x3 ∷ []) (x4 ∷ []) (passes_one key x3 b1 f3) (passes_one b1 x4 b2 f4) in
     let all = passes_more key b2 b3 (x3 ∷ x4 ∷ []) (x5 ∷ []) two (passes_one b2 x5 b3 f5) in
     (part_text key e.from e.count name there, record { x3 = x3; x4 = x4; x5 = x5; passes = rw none at all; is_thread = thread; is_pid = pid; is_execname = execname ∙ ap (λ t. Some t) (sym there.is) })

@@ -14,19 +14,19 @@ use Rattle.firing_reader.proofs.BlockSteps.{left_from}
 use Rattle.firing_reader.proofs.PlainRows.{goes_both, goes_end, goes_row}
 use Rattle.firing_reader.proofs.Rows.{last_push}
 
--- ---- where rows were read up to a place
+-- ---- where rows were read up to an index
 
--- what is left of bytes begins at this place
+-- what is left of bytes begins at this index
 pub left_at : (x rest : List ℕ) (count : ℕ) (h : Leaves x rest) → count ≡ length x - length rest → rest ≡ h.end ∷ drop (count + 1) x
-left_at x rest count h place =
-    let from : drop (count + 1) x ≡ h.after = left_from x rest h.end h.after 0 count h h.is_rest (omega (arith, place)) in
+left_at x rest count h index =
+    let from : drop (count + 1) x ≡ h.after = left_from x rest h.end h.after 0 count h h.is_rest (omega (arith, index)) in
     h.is_rest ∙ ap (λ (l : List ℕ). h.end ∷ l) (sym from)
 
 pub left_inside : (x rest : List ℕ) (count : ℕ) → Leaves x rest → count ≡ length x - length rest → count < length x
-left_inside x rest count h place =
+left_inside x rest count h index =
     let some = ap length h.is_rest in
     let all = ap length h.is_bytes in
-    omega (arith, some, all, place)
+    omega (arith, some, all, index)
 
 -- ---- a piece and what comes before it
 
@@ -123,21 +123,21 @@ passes_on old bytes front last mid new count more c h whole p =
 
 pub passes_alone : (old : List Firing) (bytes : List ℕ) (new : List Firing) (rest : List ℕ) (count : ℕ) → Leaves bytes rest → count ≡ length bytes - length rest → GoesOn old bytes new rest
     → length new ≤ 1_000_000 → PassesRows old bytes new count
-passes_alone old bytes new rest count h place g few = record {
-  read = goes_end old bytes new h.end 10 (drop (count + 1) bytes) h.ends (inl refl) (subst (GoesOn old bytes new) (left_at bytes rest count h place) g);
+passes_alone old bytes new rest count h index g few = record {
+  read = goes_end old bytes new h.end 10 (drop (count + 1) bytes) h.ends (inl refl) (subst (GoesOn old bytes new) (left_at bytes rest count h index) g);
   few = few;
-  inside = left_inside bytes rest count h place;
+  inside = left_inside bytes rest count h index;
 }
 
 -- firings with none before them
 pub piece_alone : (old : List Firing) (bytes : List ℕ) (new : List Firing) (rest : List ℕ) (count : ℕ) → old ≡ [] → Leaves bytes rest → count ≡ length bytes - length rest → ReadsMore bytes old new rest
     → IsPiece bytes new count
-piece_alone old bytes new rest count none h place more =
+piece_alone old bytes new rest count none h index more =
     let all : new ≡ more.more = rw none at more.is_new in
     record {
       end = h.end;
       ends = h.ends;
-      rows = rw all (subst (ReadsRows bytes more.more) (left_at bytes rest count h place) more.rows);
+      rows = rw all (subst (ReadsRows bytes more.more) (left_at bytes rest count h index) more.rows);
       rises = rw (← all) at (rw none at more.rises);
-      inside = left_inside bytes rest count h place;
+      inside = left_inside bytes rest count h index;
     }

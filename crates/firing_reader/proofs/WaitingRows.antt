@@ -53,9 +53,9 @@ pieces_after old bytes p mid new count more b h past rest =
 pub pieces_cut : (bytes front last : List ℕ) (p : Piece) (ps : List Piece) → AreCut bytes front last → last ≡ drop (length front - 1) bytes → p.end + 1 ≡ length front → IsPiece front p.firings p.passed
     → ArePieces ps last → ArePieces (p ∷ ps) bytes
 pieces_cut bytes front last p ps c at end piece others =
-    let place : length front - 1 ≡ p.end = omega (arith, end) in
+    let index : length front - 1 ≡ p.end = omega (arith, end) in
     let own : take (p.end + 1) bytes ≡ front = rw (end, c.is_bytes) (take-append_seam front c.after) in
-    let rest : drop p.end bytes ≡ last = sym (at ∙ ap (λ (n : ℕ). drop n bytes) place) in
+    let rest : drop p.end bytes ≡ last = sym (at ∙ ap (λ (n : ℕ). drop n bytes) index) in
     (record { cut = rw (own, rest) c; piece = rw own piece }, rw rest others)
 
 -- ---- what waits, and what is left

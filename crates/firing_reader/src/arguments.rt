@@ -20,19 +20,19 @@ pub(crate) fn keep_arguments(all: &mut Vec<i64>, args: &[i64]) -> Option<Given>
     Given::new(first, count as u32)
 }
 
-/// Adds the arguments of other firings to all: the place of the first of them.
+/// Adds the arguments of other firings to all: the index of the first of them.
 pub(crate) fn add_arguments(all: &mut Vec<i64>, others: &[i64]) -> Option<u32>
     ensures grows { Extends all.old.items all.new.items }
-    ensures place { IfSome result (λ place. place ≡ length all.old.items) }
+    ensures index { IfSome result (λ index. index ≡ length all.old.items) }
     ensures args { IfSome result (λ _. all.new.items ≡ all.old.items ++ others.now) }
     ensures few { IfSome result (λ _. length all.new.items < 2 ^ 28) }
 {
-    let place = u32::try_from(all.len()).ok()?;
+    let index = u32::try_from(all.len()).ok()?;
     all.extend_from_slice(others).ok()?;
     if all.len() >= 1 << 28 {
         return None;
     }
-    Some(place)
+    Some(index)
 }
 
 // How many arguments come before the zeros at the end.

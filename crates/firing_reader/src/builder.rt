@@ -177,14 +177,14 @@ impl FiringsBuilder {
     pub(crate) fn append(&mut self, others: &FiringsBuilder) -> Option<()>
         ensures { IfSome result (λ _. self.new ≡ self.old ++ others.now) }
     {
-        let owner_places = self.owners.places_of(self.alloc, &others.owners)?;
-        let probe_places = self.probes.places_of(self.alloc, &others.probes)?;
+        let owner_indices = self.owners.indices_of(self.alloc, &others.owners)?;
+        let probe_indices = self.probes.indices_of(self.alloc, &others.probes)?;
         let shift = add_arguments(&mut self.args, &others.args)?;
         add_rows(
             &mut self.rows,
             &others.rows,
-            &owner_places,
-            &probe_places,
+            &owner_indices,
+            &probe_indices,
             shift,
         )
     }
@@ -198,7 +198,7 @@ fn push_row(rows: &mut Vec<Row>, row: Row) -> bool
     rows.push(row).is_ok()
 }
 
-// Adds rows, with the places of their owners and probes and the starts of their arguments changed
+// Adds rows, with the indices of their owners and probes and the starts of their arguments changed
 // to those among all.
 fn add_rows(
     rows: &mut Vec<Row>,

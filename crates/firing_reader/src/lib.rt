@@ -37,7 +37,7 @@ mod whole_rows;
 pub use blocks::{Reader, read_trace_by};
 pub use fault::TraceFault;
 pub use firings::{
-    Args, Firing, FiringRows, Firings, MAX_ROWS, MAX_TEXT, MAX_TOGETHER, OwnerPlaces, Probe,
-    ProbePlaces, Text, Trace,
+    Args, Firing, FiringRows, Firings, MAX_ROWS, MAX_TEXT, MAX_TOGETHER, OwnerIndices, Probe,
+    ProbeIndices, Text, Trace,
 };
 pub use reading::read_trace;

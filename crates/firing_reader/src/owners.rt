@@ -44,7 +44,7 @@ impl PlainEntry for OwnerEntry {
     }
 }
 
-/// The place of an owner that csv read, which is kept if it isn't there. Its text is the first of
+/// The index of an owner that csv read, which is kept if it isn't there. Its text is the first of
 /// its bytes, and its numbers come after it.
 pub(crate) fn keep_owner(
     owners: &mut UnitTable<OwnerEntry>,
@@ -52,7 +52,7 @@ pub(crate) fn keep_owner(
     firing: &Firing,
 ) -> Option<u32>
     ensures grows { Extends (map owner_in owners.old) (map owner_in owners.new) }
-    ensures place { IfSome result
+    ensures index { IfSome result
         (λ p. slice_get (map owner_in owners.new) p ≡ Some (owner_of firing.now)) }
 {
     let bytes = owner_bytes(alloc, firing)?;
@@ -67,7 +67,7 @@ pub(crate) fn keep_owner(
     )
 }
 
-/// The place of the owner whose fields come first, and what comes after them.
+/// The index of the owner whose fields come first, and what comes after them.
 #[inline(always)]
 pub(crate) fn read_owner<'a>(
     owners: &mut UnitTable<OwnerEntry>,
@@ -79,8 +79,8 @@ pub(crate) fn read_owner<'a>(
         × ReadsOwner bytes.now p.1.now owner) }
 {
     let (key, rest) = bytes.split_at(end_of_three(bytes));
-    let place = owners.read(key)?;
-    Some((place, rest))
+    let index = owners.read(key)?;
+    Some((index, rest))
 }
 
 // The bytes of an owner that csv read: its text, and four for each of its numbers.

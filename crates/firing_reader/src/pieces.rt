@@ -22,7 +22,7 @@ const MAX_KEPT: usize = 1024;
 #[derive(Drop)]
 pub(crate) struct Piece {
     pub(crate) firings: FiringsBuilder,
-    // The place of the row's end that ends its bytes, and with which the next piece begins.
+    // The index of the row's end that ends its bytes, and with which the next piece begins.
     pub(crate) end: usize,
     // How many of its bytes come before what is left.
     pub(crate) passed: usize,
@@ -86,7 +86,7 @@ pub(crate) struct Cut<'a> {
     pub(crate) last: &'a [u8],
 }
 
-/// Cuts bytes at the first end of a row from a place on, or else at the first of all.
+/// Cuts bytes at the first end of a row from an index on, or else at the first of all.
 pub(crate) fn cut_near(bytes: &[u8], from: usize) -> Cut<'_>
     requires { BeginsAtEnd bytes.now }
     ensures cut { AreCut bytes.now result.front.now result.last.now }
@@ -109,7 +109,7 @@ fn ends_row(bytes: &[u8], at: usize) -> bool
     is_end(bytes[at]) && (at == 0 || !is_end(bytes[at - 1]))
 }
 
-// Cuts bytes at the first end of a row from a place on.
+// Cuts bytes at the first end of a row from an index on.
 fn cut_at_end(bytes: &[u8], from: usize) -> Option<Cut<'_>>
     ensures cut { IfSome result (λ cut. AreCut bytes.now cut.front.now cut.last.now) }
     ensures last { IfSome result

@@ -40,7 +40,7 @@ impl PlainEntry for ProbeEntry {
     }
 }
 
-/// The place of a probe that csv read, which is kept if it isn't there. A zero comes after each of
+/// The index of a probe that csv read, which is kept if it isn't there. A zero comes after each of
 /// its texts.
 pub(crate) fn keep_probe(
     probes: &mut UnitTable<ProbeEntry>,
@@ -48,7 +48,7 @@ pub(crate) fn keep_probe(
     firing: &Firing,
 ) -> Option<u32>
     ensures grows { Extends (map probe_in probes.old) (map probe_in probes.new) }
-    ensures place { IfSome result
+    ensures index { IfSome result
         (λ p. slice_get (map probe_in probes.new) p ≡ Some (probe_of firing.now)) }
 {
     let bytes = probe_bytes(alloc, firing)?;
@@ -63,7 +63,7 @@ pub(crate) fn keep_probe(
     )
 }
 
-/// The place of the probe whose fields come first, and what comes after them.
+/// The index of the probe whose fields come first, and what comes after them.
 #[inline(always)]
 pub(crate) fn read_probe<'a>(
     probes: &mut UnitTable<ProbeEntry>,
@@ -75,8 +75,8 @@ pub(crate) fn read_probe<'a>(
         × ReadsProbe bytes.now p.1.now probe) }
 {
     let (key, rest) = bytes.split_at(end_of_four(bytes));
-    let place = probes.read(key)?;
-    Some((place, rest))
+    let index = probes.read(key)?;
+    Some((index, rest))
 }
 
 // The bytes of a probe that csv read: each text, and a zero after it.

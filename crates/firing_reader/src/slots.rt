@@ -10,24 +10,24 @@ const MIN_SLOTS: usize = 2048;
 // How many slots are looked at for one hash.
 pub(crate) const NEAR: usize = 8;
 
-// No place.
+// No index.
 pub(crate) const NOWHERE: u32 = u32::MAX;
 
-/// The place of a thing, and the upper half of its hash.
+/// The index of a thing, and the upper half of its hash.
 #[derive(Clone, Copy)]
 pub(crate) struct Slot {
     tag: u32,
-    pub(crate) place: u32,
+    pub(crate) index: u32,
 }
 
 impl Slot {
     const EMPTY: Slot = Slot {
         tag: 0,
-        place: NOWHERE,
+        index: NOWHERE,
     };
 
     pub(crate) fn is_empty(self) -> bool {
-        self.place == NOWHERE
+        self.index == NOWHERE
     }
 
     pub(crate) fn is_of(self, tag: u32) -> bool {
@@ -35,7 +35,7 @@ impl Slot {
     }
 }
 
-/// The places of things by their hashes, which begin at a secret state. Whoever looks asks whether
+/// The indices of things by their hashes, which begin at a secret state. Whoever looks asks whether
 /// the thing is there, and keeps one that isn't found: only time and memory depend on what is
 /// found.
 #[derive(Drop)]
@@ -104,18 +104,18 @@ impl Slots {
         }
     }
 
-    /// Notes a new place, or returns None if memory is refused. If no slot near its first is
+    /// Notes a new index, or returns None if memory is refused. If no slot near its first is
     /// free, it won't be found.
-    pub(crate) fn note(&mut self, tag: u32, place: u32) -> Option<()> {
+    pub(crate) fn note(&mut self, tag: u32, index: u32) -> Option<()> {
         if self.used > self.slots.len() / 4 {
             self.grow()?;
         }
-        put(&mut self.slots, Slot { tag, place });
+        put(&mut self.slots, Slot { tag, index });
         self.used = self.used.wrapping_add(1);
         Some(())
     }
 
-    /// Forgets all places, and keeps the slots.
+    /// Forgets all indices, and keeps the slots.
     pub(crate) fn clear(&mut self) {
         self.slots.fill(Slot::EMPTY);
         self.used = 0;

@@ -2,7 +2,7 @@
 
 ghost use Rattle.std.specs.Prelude.{◌≡◌, ◌<◌, ◌++◌, ◌∷◌, [], true, ℕ, List, IfOk, IfSome};
 ghost use Rattle.std.specs.Prelude.{MatchOption, Some, length, slice_get, vec_capacity, vec_len};
-ghost use Rattle.firings.specs.Stored.{ArePlaces, Extends};
+ghost use Rattle.firings.specs.Stored.{AreIndices, Extends};
 
 use crate::slots::{NEAR, NOWHERE, Slots};
 use firings::{Entry, Known, Units};
@@ -105,43 +105,43 @@ impl<E: PlainEntry> UnitTable<E> {
         Units::of(bytes, known)
     }
 
-    // The unit at a place: its bytes, whether they are plain fields, and its entry.
+    // The unit at an index: its bytes, whether they are plain fields, and its entry.
     #[inline(always)]
-    fn at(&self, place: usize) -> (&[u8], bool, E)
-        requires { place < length self.now }
-        ensures there { slice_get self.now place ≡ Some (result.0.now, result.2) }
+    fn at(&self, index: usize) -> (&[u8], bool, E)
+        requires { index < length self.now }
+        ensures there { slice_get self.now index ≡ Some (result.0.now, result.2) }
         ensures inside { E.is_in result.2 result.0.now }
         ensures reads { result.1 ≡ true → E.reads result.2 result.0.now }
     {
-        let known = self.known[place];
+        let known = self.known[index];
         let begin = known.begin as usize;
         let bytes = &self.bytes[begin..begin + known.count as usize];
         (bytes, known.plain, known.entry)
     }
 
-    // Whether the unit at a place has these bytes, as plain fields or not.
+    // Whether the unit at an index has these bytes, as plain fields or not.
     #[inline(always)]
-    fn is_at(&self, place: u32, key: &[u8], plain: bool) -> bool
-        ensures { result ≡ true → (e : E) × (slice_get self.now place ≡ Some (key.now, e))
+    fn is_at(&self, index: u32, key: &[u8], plain: bool) -> bool
+        ensures { result ≡ true → (e : E) × (slice_get self.now index ≡ Some (key.now, e))
             × (plain ≡ true → E.reads e key.now) }
     {
-        let place = place as usize;
-        if place >= self.len() {
+        let index = index as usize;
+        if index >= self.len() {
             return false;
         }
-        let (bytes, is_plain, _) = self.at(place);
+        let (bytes, is_plain, _) = self.at(index);
         is_plain == plain && is_same(bytes, key)
     }
 
-    // The place of the unit of these bytes and this tag, where it is found.
+    // The index of the unit of these bytes and this tag, where it is found.
     #[inline(always)]
     fn find(&self, key: &[u8], plain: bool, tag: u32) -> Option<u32>
         ensures { IfSome result (λ p. (e : E) × (slice_get self.now p ≡ Some (key.now, e))
             × (plain ≡ true → E.reads e key.now)) }
     {
         let slot = self.slots.near(tag, 0);
-        if slot.is_of(tag) && self.is_at(slot.place, key, plain) {
-            return Some(slot.place);
+        if slot.is_of(tag) && self.is_at(slot.index, key, plain) {
+            return Some(slot.index);
         }
         if slot.is_empty() {
             return None;
@@ -149,7 +149,7 @@ impl<E: PlainEntry> UnitTable<E> {
         self.find_near(key, plain, tag)
     }
 
-    // The place of the unit of these bytes and this tag, in the slots after the first.
+    // The index of the unit of these bytes and this tag, in the slots after the first.
     #[inline(never)]
     fn find_near(&self, key: &[u8], plain: bool, tag: u32) -> Option<u32>
         ensures { IfSome result (λ p. (e : E) × (slice_get self.now p ≡ Some (key.now, e))
@@ -160,21 +160,21 @@ impl<E: PlainEntry> UnitTable<E> {
             if slot.is_empty() {
                 return None;
             }
-            if slot.is_of(tag) && self.is_at(slot.place, key, plain) {
-                return Some(slot.place);
+            if slot.is_of(tag) && self.is_at(slot.index, key, plain) {
+                return Some(slot.index);
             }
         }
         None
     }
 
-    // Keeps a unit at a new place. Where memory is refused nothing is kept.
+    // Keeps a unit at a new index. Where memory is refused nothing is kept.
     fn push(&mut self, key: &[u8], plain: bool, tag: u32, entry: E) -> Option<u32>
         requires inside { E.is_in entry key.now }
         requires reads { plain ≡ true → E.reads entry key.now }
         ensures { MatchOption result (self.new ≡ self.old)
             (λ p. (self.new ≡ self.old ++ (key.now, entry) ∷ []) × (p ≡ length self.old)) }
     {
-        let place = u32::try_from(self.len()).ok()?;
+        let index = u32::try_from(self.len()).ok()?;
         let begin = u32::try_from(self.bytes.len()).ok()?;
         let count = u32::try_from(key.len()).ok()?;
         make_room(&mut self.known)?;
@@ -186,20 +186,20 @@ impl<E: PlainEntry> UnitTable<E> {
             plain,
             entry,
         });
-        self.slots.note(tag, place);
-        Some(place)
+        self.slots.note(tag, index);
+        Some(index)
     }
 
-    /// The place of the unit that these plain fields write, which is kept if it isn't found.
+    /// The index of the unit that these plain fields write, which is kept if it isn't found.
     #[inline(always)]
     pub(crate) fn read(&mut self, key: &[u8]) -> Option<u32>
         ensures grows { Extends self.old self.new }
-        ensures place { IfSome result (λ p. (e : E)
+        ensures index { IfSome result (λ p. (e : E)
             × (slice_get self.new p ≡ Some (key.now, e)) × E.reads e key.now) }
     {
         let tag = self.slots.tag(key);
         match self.find(key, true, tag) {
-            Some(place) => Some(place),
+            Some(index) => Some(index),
             None => self.add(key, tag),
         }
     }
@@ -209,52 +209,52 @@ impl<E: PlainEntry> UnitTable<E> {
     #[inline(never)]
     fn add(&mut self, key: &[u8], tag: u32) -> Option<u32>
         ensures grows { Extends self.old self.new }
-        ensures place { IfSome result (λ p. (e : E)
+        ensures index { IfSome result (λ p. (e : E)
             × (slice_get self.new p ≡ Some (key.now, e)) × E.reads e key.now) }
     {
         let entry = E::read(key)?;
         self.push(key, true, tag, entry)
     }
 
-    /// The place of a unit that csv read, which is kept if it isn't found. Its bytes have to
+    /// The index of a unit that csv read, which is kept if it isn't found. Its bytes have to
     /// tell it from others.
     pub(crate) fn keep(&mut self, key: &[u8], entry: E) -> Option<u32>
         requires { E.is_in entry key.now }
         ensures grows { Extends self.old self.new }
-        ensures place { IfSome result (λ p. slice_get self.new p ≡ Some (key.now, entry)) }
+        ensures index { IfSome result (λ p. slice_get self.new p ≡ Some (key.now, entry)) }
     {
         let tag = self.slots.tag(key);
         match self.find(key, false, tag) {
-            Some(place) if self.is_of(place, entry) => Some(place),
+            Some(index) if self.is_of(index, entry) => Some(index),
             _ => self.push(key, false, tag, entry),
         }
     }
 
-    // Whether the unit at a place has this entry.
-    fn is_of(&self, place: u32, entry: E) -> bool
-        requires { place < length self.now }
+    // Whether the unit at an index has this entry.
+    fn is_of(&self, index: u32, entry: E) -> bool
+        requires { index < length self.now }
         ensures { result ≡ true → (bytes : List ℕ)
-            × (slice_get self.now place ≡ Some (bytes, entry)) }
+            × (slice_get self.now index ≡ Some (bytes, entry)) }
     {
-        let (_, _, kept) = self.at(place as usize);
+        let (_, _, kept) = self.at(index as usize);
         kept.is(entry)
     }
 
-    // The first slots of others at 16 places from this one on: where they may be.
-    fn first_places(&self, others: &UnitTable<E>, from: usize) -> [u32; TOGETHER] {
-        let mut places = [NOWHERE; TOGETHER];
+    // The first slots of others at 16 indices from this one on: where they may be.
+    fn first_indices(&self, others: &UnitTable<E>, from: usize) -> [u32; TOGETHER] {
+        let mut indices = [NOWHERE; TOGETHER];
         for n in 0..TOGETHER {
             if let Some(other) = others.known.get(from.wrapping_add(n)) {
-                places[n] = self.slots.near(other.tag, 0).place;
+                indices[n] = self.slots.near(other.tag, 0).index;
             }
         }
-        places
+        indices
     }
 
-    // Where others may be among these, for those at 16 places from this one on: guesses, which are
+    // Where others may be among these, for those at 16 indices from this one on: guesses, which are
     // checked. Each step is taken for all of them before the next.
     fn guesses(&self, others: &UnitTable<E>, from: usize) -> [u32; TOGETHER] {
-        let mut guesses = self.first_places(others, from);
+        let mut guesses = self.first_indices(others, from);
         for n in 0..TOGETHER {
             if !self.begins_alike(guesses[n], others, from.wrapping_add(n)) {
                 guesses[n] = NOWHERE;
@@ -264,8 +264,8 @@ impl<E: PlainEntry> UnitTable<E> {
     }
 
     // Whether a unit has as many bytes as one of others, and the same first.
-    fn begins_alike(&self, place: u32, others: &UnitTable<E>, at: usize) -> bool {
-        match (self.known.get(place as usize), others.known.get(at)) {
+    fn begins_alike(&self, index: u32, others: &UnitTable<E>, at: usize) -> bool {
+        match (self.known.get(index as usize), others.known.get(at)) {
             (Some(known), Some(other)) => {
                 known.count == other.count
                     && self.bytes.get(known.begin as usize)
@@ -275,12 +275,12 @@ impl<E: PlainEntry> UnitTable<E> {
         }
     }
 
-    // The place of a unit of others, which is kept if it isn't found. It is looked for at a
+    // The index of a unit of others, which is kept if it isn't found. It is looked for at a
     // guess first.
-    fn place_of_other(&mut self, others: &UnitTable<E>, at: usize, guess: u32) -> Option<u32>
+    fn index_of_other(&mut self, others: &UnitTable<E>, at: usize, guess: u32) -> Option<u32>
         requires { at < length others.now }
         ensures grows { Extends self.old self.new }
-        ensures place { IfSome result (λ p. slice_get self.new p ≡ slice_get others.now at) }
+        ensures index { IfSome result (λ p. slice_get self.new p ≡ slice_get others.now at) }
     {
         let (key, plain, entry) = others.at(at);
         let tag = others.known[at].tag;
@@ -290,25 +290,25 @@ impl<E: PlainEntry> UnitTable<E> {
             self.find(key, plain, tag)
         };
         match found {
-            Some(place) if self.is_of(place, entry) => Some(place),
+            Some(index) if self.is_of(index, entry) => Some(index),
             _ => self.push(key, plain, tag, entry),
         }
     }
 
-    /// The places of others, which are kept if they aren't found.
-    pub(crate) fn places_of(&mut self, alloc: Global, others: &UnitTable<E>) -> Option<Vec<u32>>
+    /// The indices of others, which are kept if they aren't found.
+    pub(crate) fn indices_of(&mut self, alloc: Global, others: &UnitTable<E>) -> Option<Vec<u32>>
         ensures grows { Extends self.old self.new }
-        ensures places { IfSome result (λ places. ArePlaces self.new places.items others.now) }
+        ensures indices { IfSome result (λ indices. AreIndices self.new indices.items others.now) }
     {
-        let mut places = Vec::new(alloc);
+        let mut indices = Vec::new(alloc);
         let mut guesses = [NOWHERE; TOGETHER];
         for at in 0..others.len() {
             if at % TOGETHER == 0 {
                 guesses = self.guesses(others, at);
             }
-            let place = self.place_of_other(others, at, guesses[at % TOGETHER])?;
-            places.push(place).ok()?;
+            let index = self.index_of_other(others, at, guesses[at % TOGETHER])?;
+            indices.push(index).ok()?;
         }
-        Some(places)
+        Some(indices)
     }
 }

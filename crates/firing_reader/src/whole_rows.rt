@@ -35,7 +35,7 @@ pub(crate) fn read_rows(
     Ok(())
 }
 
-/// Drops the bytes before a place, and puts a line feed there, as at the end of a row.
+/// Drops the bytes before an index, and puts a line feed there, as at the end of a row.
 pub(crate) fn keep_from(left: &mut Vec<u8>, at: usize)
     requires { at < length left.old.items }
     ensures { left.new.items ≡ 10 ∷ drop (at + 1) left.old.items }

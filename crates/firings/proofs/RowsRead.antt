@@ -7,7 +7,7 @@ use Rattle.std.proofs.lemmas.List.Elements.{All-map}
 use Rattle.std.proofs.lemmas.Option.{get_or_from_slice_get, slice_get-map, slice_get_within}
 use Rattle.firings.specs.Stored.{row_before}
 
-pub before_is : {X : Type 0} (P : X → Type 0) (xs : List X) (place : ℕ) → All P xs → IfSome (row_before xs place) P
+pub before_is : {X : Type 0} (P : X → Type 0) (xs : List X) (index : ℕ) → All P xs → IfSome (row_before xs index) P
 before_is P xs zero all = tt
 before_is P xs (suc i) all = found (slice_get xs i) refl
   where
@@ -15,13 +15,13 @@ before_is P xs (suc i) all = found (slice_get xs i) refl
     found None is = tt
     found (Some x) is = subst P (get_or_from_slice_get xs i x x is) (all i x (slice_get_within xs i x is))
 
-pub all_before : {X : Type 0} (P : X → Type 0) (xs : List X) (places : List ℕ) → All P xs → All (λ r. IfSome r P) (map (row_before xs) places)
-all_before P xs places all = All-map (λ (r : Option _). IfSome r P) (row_before xs) places (λ k d lt. before_is P xs _ all)
+pub all_before : {X : Type 0} (P : X → Type 0) (xs : List X) (indices : List ℕ) → All P xs → All (λ r. IfSome r P) (map (row_before xs) indices)
+all_before P xs indices all = All-map (λ (r : Option _). IfSome r P) (row_before xs) indices (λ k d lt. before_is P xs _ all)
 
-pub before_mapped : {X Y : Type 0} (f : X → Y) (xs : List X) (places : List ℕ) → map (option_map f) (map (row_before xs) places) ≡ map (row_before (map f xs)) places
+pub before_mapped : {X Y : Type 0} (f : X → Y) (xs : List X) (indices : List ℕ) → map (option_map f) (map (row_before xs) indices) ≡ map (row_before (map f xs)) indices
 before_mapped f xs [] = refl
-before_mapped f xs (zero ∷ places) = rw (before_mapped f xs places) refl
-before_mapped f xs (suc i ∷ places) = rw (slice_get-map f xs i, before_mapped f xs places) refl
+before_mapped f xs (zero ∷ indices) = rw (before_mapped f xs indices) refl
+before_mapped f xs (suc i ∷ indices) = rw (slice_get-map f xs i, before_mapped f xs indices) refl
 
 -- ---- one of them
 

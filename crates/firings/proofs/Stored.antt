@@ -61,7 +61,7 @@ pub seen_all : (o q : List Owner) (p u : List Probe) (a b : List ℤ) (rs : List
 seen_all o q p u a b [] eo ep ea all = refl
 seen_all o q p u a b (r ∷ rs) eo ep ea all = rw (seen_same o q p u a b r eo ep ea (All-head (IsRowIn o p a) r rs all), seen_all o q p u a b rs eo ep ea (All-tail (IsRowIn o p a) r rs all)) refl
 
--- what is at its place
+-- what is at its index
 pub named_at : {X : Type 0} (xs : List X) (p : ℕ) (x d : X) → slice_get xs p ≡ Some x → get_or xs p d ≡ x
 named_at xs p x d is = get_or_from_slice_get xs p x d is
 
@@ -90,6 +90,6 @@ pub ten_same : (xs ys : List ℤ) → length ys ≡ 10 → ((i : ℕ) → get_or
 ten_same xs (a0 ∷ a1 ∷ a2 ∷ a3 ∷ a4 ∷ a5 ∷ a6 ∷ a7 ∷ a8 ∷ a9 ∷ []) is same = rw (same 0, same 1, same 2, same 3, same 4, same 5, same 6, same 7, same 8, same 9) refl
 ten_same xs _ is same = absurd (omega arith)
 
--- what is seen of what is at a place
+-- what is seen of what is at an index
 pub seen_at : {X Y : Type 0} (f : X → Y) (xs : List X) (i : ℕ) (x : X) → slice_get xs i ≡ Some x → slice_get (map f xs) i ≡ Some (f x)
 seen_at f xs i x there = slice_get-map f xs i ∙ rw there refl

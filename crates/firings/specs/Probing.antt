@@ -12,7 +12,7 @@ probe_of f = record {
   name = f.name;
 }
 
--- probes, and of each firing the place of its own among them
-pub record PlacesSeen : Type 0 where
+-- probes, and of each firing the index of its own among them
+pub record IndicesSeen : Type 0 where
   pub probes : List Probe
-  pub places : List ℕ
+  pub indices : List ℕ

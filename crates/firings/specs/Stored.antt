@@ -33,7 +33,7 @@ given_in args g = take (count_of g) (drop (first_of g) args)
 abbrev pub IsGivenIn : List ℤ → Given → Type 0
 IsGivenIn args g = first_of g + count_of g ≤ length args
 
--- what has no place
+-- what has no index
 abbrev pub no_owner : Owner
 no_owner = record { thread = pos 0; pid = pos 0; execname = [] }
 
@@ -63,11 +63,11 @@ pub record IsRowIn (owners : List Owner) (probes : List Probe) (args : List ℤ)
   pub probe : r.probe < length probes
   pub given : IsGivenIn args r.given
 
--- the places where these others are, one for each
-abbrev pub ArePlaces : {X : Type 0} → List X → List ℕ → List X → Type 0
-ArePlaces all places others = map (slice_get all) places ≡ map (λ x. Some x) others
+-- the indices where these others are, one for each
+abbrev pub AreIndices : {X : Type 0} → List X → List ℕ → List X → Type 0
+AreIndices all indices others = map (slice_get all) indices ≡ map (λ x. Some x) others
 
--- the element one before a place: none before the first, and none past the last
+-- the element one before an index: none before the first, and none past the last
 abbrev pub row_before : {X : Type 0} → List X → ℕ → Option X
 row_before xs zero = None
 row_before xs (suc i) = slice_get xs i

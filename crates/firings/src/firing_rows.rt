@@ -57,26 +57,26 @@ impl<'a> FiringRows<'a> {
     }
 }
 
-/// The rows one before each of these places.
-pub(crate) fn rows_before(rows: &[Row], places: &[u32]) -> [Option<Row>; MAX_TOGETHER]
-    requires { length places.now ≤ MAX_TOGETHER }
-    ensures { take (length places.now) result ≡ map (row_before rows.now) places.now }
+/// The rows one before each of these indices.
+pub(crate) fn rows_before(rows: &[Row], indices: &[u32]) -> [Option<Row>; MAX_TOGETHER]
+    requires { length indices.now ≤ MAX_TOGETHER }
+    ensures { take (length indices.now) result ≡ map (row_before rows.now) indices.now }
 {
     let mut found = [None; MAX_TOGETHER];
-    for (at, place) in places.iter().enumerate() {
-        found[at] = one_before(rows, *place);
+    for (at, index) in indices.iter().enumerate() {
+        found[at] = one_before(rows, *index);
     }
     found
 }
 
-// The row one before a place; None before the first and past the last.
-fn one_before(rows: &[Row], place: u32) -> Option<Row>
-    ensures { result ≡ row_before rows.now place }
+// The row one before an index; None before the first and past the last.
+fn one_before(rows: &[Row], index: u32) -> Option<Row>
+    ensures { result ≡ row_before rows.now index }
 {
-    if place == 0 {
+    if index == 0 {
         return None;
     }
-    rows.get(place as usize - 1).copied()
+    rows.get(index as usize - 1).copied()
 }
 
 /// The firing of a row.

@@ -4,14 +4,14 @@
 ghost use Rattle.std.specs.Prelude.{◌≡◌, ◌<◌, ◌≤◌, All, Some, length, map, slice_get};
 ghost use Rattle.firings.specs.Firings.{last_number as last_number_of, thread_of};
 ghost use Rattle.firings.specs.{Probing.probe_of};
-ghost use Rattle.firings.specs.Stored.{ArePlaces, IsRowIn, firing_in, row_before};
+ghost use Rattle.firings.specs.Stored.{AreIndices, IsRowIn, firing_in, row_before};
 ghost use Rattle.firings.specs.Units.{owner_in, probe_in};
 ghost use Rattle.firings.specs.declared.limits.TheConstants.{MAX_TOGETHER};
 
 use crate::firing::Firing;
 use crate::firing_rows::{FiringRows, firing_of, rows_before};
-use crate::owner_places::OwnerPlaces;
-use crate::probe_places::ProbePlaces;
+use crate::owner_indices::OwnerIndices;
+use crate::probe_indices::ProbeIndices;
 use crate::stored_row::Row;
 use crate::unit::{OwnerEntry, ProbeEntry};
 use crate::units::Units;
@@ -73,7 +73,7 @@ impl Firings {
         self.rows.len()
     }
 
-    /// The firing at a place, from 0.
+    /// The firing at an index, from 0.
     ///
     /// ```text
     /// // of rows with the numbers 1 and 40
@@ -86,47 +86,47 @@ impl Firings {
         firing_of(&self.owners, &self.probes, &self.args, self.rows[at])
     }
 
-    /// The rows of the firings at these places of a run, in which BEGIN comes before the first:
-    /// row 0 has place 1. They are copied one right after the other, so that the processor waits
+    /// The rows of the firings at these indices of a run, in which BEGIN comes before the first:
+    /// row 0 has index 1. They are copied one right after the other, so that the processor waits
     /// for all of them at once.
     ///
     /// ```text
     /// let rows = trace.firings().rows(&[1, 40]);
     /// rows.get(1); // the firing of row 39, or None where there are fewer rows
     /// ```
-    pub fn rows(&self, places: &[u32]) -> FiringRows
-        requires { length places.now ≤ MAX_TOGETHER }
-        ensures { result ≡ map (row_before self.now) places.now }
+    pub fn rows(&self, indices: &[u32]) -> FiringRows
+        requires { length indices.now ≤ MAX_TOGETHER }
+        ensures { result ≡ map (row_before self.now) indices.now }
     {
         FiringRows {
             owners: &self.owners,
             probes: &self.probes,
             args: &self.args,
-            rows: rows_before(&self.rows, places),
-            count: places.len(),
+            rows: rows_before(&self.rows, indices),
+            count: indices.len(),
         }
     }
 
     /// Which probe each is of.
     ///
     /// ```text
-    /// trace.firings().probe_places().probe_count(); // 2, where the rows are of two probes
+    /// trace.firings().probe_indices().probe_count(); // 2, where the rows are of two probes
     /// ```
-    pub fn probe_places(&self) -> ProbePlaces
-        ensures { ArePlaces result.probes result.places (map probe_of self.now) }
+    pub fn probe_indices(&self) -> ProbeIndices
+        ensures { AreIndices result.probes result.indices (map probe_of self.now) }
     {
-        ProbePlaces::new(&self.probes, &self.rows)
+        ProbeIndices::new(&self.probes, &self.rows)
     }
 
     /// Which owner each is of.
     ///
     /// ```text
-    /// trace.firings().owner_places().owner_count(); // 2, where the rows are of two owners
+    /// trace.firings().owner_indices().owner_count(); // 2, where the rows are of two owners
     /// ```
-    pub fn owner_places(&self) -> OwnerPlaces
-        ensures { ArePlaces result.0 result.1 (map thread_of self.now) }
+    pub fn owner_indices(&self) -> OwnerIndices
+        ensures { AreIndices result.0 result.1 (map thread_of self.now) }
     {
-        OwnerPlaces {
+        OwnerIndices {
             owners: &self.owners,
             rows: &self.rows,
         }

@@ -10,7 +10,7 @@ pub struct Given {
 }
 
 impl Given {
-    /// `count` arguments from the place `first` on; none if that is 2^28 or more.
+    /// `count` arguments from the index `first` on; none if that is 2^28 or more.
     pub fn new(first: usize, count: u32) -> Option<Given>
         requires { count ≤ 10 }
         ensures first { IfSome result (λ g. first_of g ≡ first) }
@@ -37,7 +37,7 @@ impl Given {
         (self.packed % 16) as usize
     }
 
-    /// As many arguments, `shift` places later.
+    /// As many arguments, `shift` indices later.
     pub fn moved(self, shift: u32) -> Given
         requires { first_of self + shift < 2 ^ 28 }
         ensures { result ≡ moved_given shift self }
@@ -48,7 +48,7 @@ impl Given {
     }
 }
 
-/// A firing: its owner and its probe by their places, and its arguments but for zeros at the end.
+/// A firing: its owner and its probe by their indices, and its arguments but for zeros at the end.
 #[derive(Clone, Copy)]
 pub struct Row {
     pub number: u64,
@@ -59,7 +59,7 @@ pub struct Row {
     pub given: Given,
 }
 
-/// The row at a place.
+/// The row at an index.
 #[inline(always)]
 pub(crate) fn row_at(rows: &[Row], at: usize) -> Row
     requires { at < length rows.now }

@@ -73,12 +73,12 @@ fn threads_of(alloc: Global, firings: &Firings) -> Result<BTreeSet<i32>, AllocEr
     ensures { IfOk result (λ seen.
         (t : ℤ) → Contains seen.keys t ↔ Contains (map thread_of firings.now) t) }
 {
-    let places = firings.owner_places();
+    let indices = firings.owner_indices();
     let mut seen = BTreeSet::new(alloc);
-    let mut noted = vec![in alloc; false; places.owner_count()]?;
+    let mut noted = vec![in alloc; false; indices.owner_count()]?;
     for at in 0..firings.len() {
-        let owner = places.place(at);
-        note(&mut seen, &mut noted, owner, places.thread(owner))?;
+        let owner = indices.index_of(at);
+        note(&mut seen, &mut noted, owner, indices.thread(owner))?;
     }
     Ok(seen)
 }

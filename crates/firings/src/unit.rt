@@ -61,13 +61,13 @@ impl Entry for ProbeEntry {
     ghost is_in = { λ e bytes. IsProbeIn e bytes };
 }
 
-/// The owner at a place.
+/// The owner at an index.
 #[inline(always)]
-pub(crate) fn owner_at(owners: &Units<OwnerEntry>, place: usize) -> Owner
-    requires { place < length owners.now }
-    ensures { slice_get (map owner_in owners.now) place ≡ Some result }
+pub(crate) fn owner_at(owners: &Units<OwnerEntry>, index: usize) -> Owner
+    requires { index < length owners.now }
+    ensures { slice_get (map owner_in owners.now) index ≡ Some result }
 {
-    let (bytes, entry) = owners.at(place);
+    let (bytes, entry) = owners.at(index);
     Owner {
         thread: entry.thread,
         pid: entry.pid,
@@ -75,13 +75,13 @@ pub(crate) fn owner_at(owners: &Units<OwnerEntry>, place: usize) -> Owner
     }
 }
 
-/// The probe at a place.
+/// The probe at an index.
 #[inline(always)]
-pub(crate) fn probe_at(probes: &Units<ProbeEntry>, place: usize) -> Probe
-    requires { place < length probes.now }
-    ensures { slice_get (map probe_in probes.now) place ≡ Some result }
+pub(crate) fn probe_at(probes: &Units<ProbeEntry>, index: usize) -> Probe
+    requires { index < length probes.now }
+    ensures { slice_get (map probe_in probes.now) index ≡ Some result }
 {
-    let (bytes, entry) = probes.at(place);
+    let (bytes, entry) = probes.at(index);
     let probemod = entry.provider as usize + 1;
     let probefunc = probemod + entry.probemod as usize + 1;
     let name = probefunc + entry.probefunc as usize + 1;

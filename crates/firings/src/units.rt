@@ -56,14 +56,14 @@ impl<E: Entry> Units<E> {
         self.known.len()
     }
 
-    /// The unit at a place: its bytes and its entry.
+    /// The unit at an index: its bytes and its entry.
     #[inline(always)]
-    pub(crate) fn at(&self, place: usize) -> (&[u8], E)
-        requires { place < length self.now }
-        ensures there { slice_get self.now place ≡ Some (result.0.now, result.1) }
+    pub(crate) fn at(&self, index: usize) -> (&[u8], E)
+        requires { index < length self.now }
+        ensures there { slice_get self.now index ≡ Some (result.0.now, result.1) }
         ensures inside { E.is_in result.1 result.0.now }
     {
-        let known = self.known[place];
+        let known = self.known[index];
         let begin = known.begin as usize;
         let bytes = &self.bytes[begin..begin + known.count as usize];
         (bytes, known.entry)

@@ -72,29 +72,29 @@ ended_by_number m seen fs f rest all none lt parts = record { rest = f ∷ rest;
 pub ended_by_last : (m : ScriptMeant) (seen : ℕ) (fs all : List Firing) → exit_over m fs ≡ None → all ≡ fs → IsBeginning m seen fs all
 ended_by_last m seen fs all none parts = record { rest = []; parts = parts ∙ sym (append-nil fs); end = inr (none, tt) }
 
--- ---- places
+-- ---- indices
 
-take_drop : (i : ℕ) (places : List ℕ) → places ≡ take i places ++ drop i places
-take_drop zero places = refl
+take_drop : (i : ℕ) (indices : List ℕ) → indices ≡ take i indices ++ drop i indices
+take_drop zero indices = refl
 take_drop (suc i) [] = refl
-take_drop (suc i) (p ∷ places) = ap (λ l. p ∷ l) (take_drop i places)
+take_drop (suc i) (p ∷ indices) = ap (λ l. p ∷ l) (take_drop i indices)
 
--- the firings at the places up to one, and from it on
-pub at_parts : (fs : List Firing) (places : List ℕ) (i : ℕ) → firings_at fs places ≡ firings_at fs (take i places) ++ firings_at fs (drop i places)
-at_parts fs places i = ap (firings_at fs) (take_drop i places) ∙ flat_map-append (λ p. take 1 (drop p fs)) (take i places) (drop i places)
+-- the firings at the indices up to one, and from it on
+pub at_parts : (fs : List Firing) (indices : List ℕ) (i : ℕ) → firings_at fs indices ≡ firings_at fs (take i indices) ++ firings_at fs (drop i indices)
+at_parts fs indices i = ap (firings_at fs) (take_drop i indices) ∙ flat_map-append (λ p. take 1 (drop p fs)) (take i indices) (drop i indices)
 
-pub at_next : (fs : List Firing) (places : List ℕ) (i place : ℕ) (f : Firing) → i < length places → get_or places i place ≡ place → slice_get fs place ≡ Some f
-    → firings_at fs (drop i places) ≡ f ∷ firings_at fs (drop (i + 1) places)
-at_next fs places i place f lt item is = ap (firings_at fs) (drop_next places i place lt item) ∙ ap (λ l. l ++ firings_at fs (drop (i + 1) places)) (one_at fs place f is)
+pub at_next : (fs : List Firing) (indices : List ℕ) (i index : ℕ) (f : Firing) → i < length indices → get_or indices i index ≡ index → slice_get fs index ≡ Some f
+    → firings_at fs (drop i indices) ≡ f ∷ firings_at fs (drop (i + 1) indices)
+at_next fs indices i index f lt item is = ap (firings_at fs) (drop_next indices i index lt item) ∙ ap (λ l. l ++ firings_at fs (drop (i + 1) indices)) (one_at fs index f is)
 
-take_all : (i : ℕ) (places : List ℕ) → length places ≤ i → take i places ≡ places
+take_all : (i : ℕ) (indices : List ℕ) → length indices ≤ i → take i indices ≡ indices
 take_all zero [] le = refl
-take_all zero (p ∷ places) le = absurd (omega arith)
+take_all zero (p ∷ indices) le = absurd (omega arith)
 take_all (suc i) [] le = refl
-take_all (suc i) (p ∷ places) le = ap (λ l. p ∷ l) (take_all i places (omega arith))
+take_all (suc i) (p ∷ indices) le = ap (λ l. p ∷ l) (take_all i indices (omega arith))
 
-pub at_all : (fs : List Firing) (places : List ℕ) (i : ℕ) → length places ≤ i → firings_at fs places ≡ firings_at fs (take i places)
-at_all fs places i le = ap (firings_at fs) (sym (take_all i places le))
+pub at_all : (fs : List Firing) (indices : List ℕ) (i : ℕ) → length indices ≤ i → firings_at fs indices ≡ firings_at fs (take i indices)
+at_all fs indices i le = ap (firings_at fs) (sym (take_all i indices le))
 
 -- ---- pieces
 

@@ -24,13 +24,13 @@ use Rattle.replay_core.specs.Steps.Described.{is_given}
 use Rattle.replay_core.specs.Steps.Described.{where_given}
 use Rattle.replay_core.specs.Patterns.{field_matches, selects}
 use Rattle.replay_core.specs.Steps.Patterns.{is_plain}
-use Rattle.replay_core.specs.Places.{places_for}
-use Rattle.replay_core.specs.Steps.Places.{merge}
+use Rattle.replay_core.specs.Indices.{indices_for}
+use Rattle.replay_core.specs.Steps.Indices.{merge}
 use Rattle.replay_core.specs.Uniting.{AllFrom, InOrder, with_number}
 use Rattle.replay_core.proofs.PatternTests.{and_parts, literal, matches_there}
-use Rattle.replay_core.proofs.PlacesMerged.{AreFrom, Rise, merges}
+use Rattle.replay_core.proofs.IndicesMerged.{AreFrom, Rise, merges}
 
--- the places of those that select the probe
+-- the indices of those that select the probe
 abbrev pub clauses_selected : Probe → List (ℕ × Description) → List ℕ
 clauses_selected p given = map (λ x. x.0) (filter (λ x. selects x.1 p) given)
 
@@ -208,29 +208,29 @@ from_less : (n m : ℕ) (xs : List (ℕ × Description)) → n ≤ m → AllFrom
 from_less n m [] le h = tt
 from_less n m (x ∷ xs) le h = (let ge = h.0 in omega arith, from_less n m xs le h.1)
 
-one_place : (n : ℕ) (ds : List Description) (rest : List (ℕ × Description)) → AllFrom n rest → InOrder rest → AllFrom n (map (λ d. (n, d)) ds ++ rest) × InOrder (map (λ d. (n, d)) ds ++ rest)
-one_place n [] rest all order = (all, order)
-one_place n (d ∷ ds) rest all order = let more = one_place n ds rest all order in ((omega arith, more.0), (more.0, more.1))
+one_index : (n : ℕ) (ds : List Description) (rest : List (ℕ × Description)) → AllFrom n rest → InOrder rest → AllFrom n (map (λ d. (n, d)) ds ++ rest) × InOrder (map (λ d. (n, d)) ds ++ rest)
+one_index n [] rest all order = (all, order)
+one_index n (d ∷ ds) rest all order = let more = one_index n ds rest all order in ((omega arith, more.0), (more.0, more.1))
 
 given_rises : (n : ℕ) (ds : List (List Description)) → AllFrom n (given_from n ds) × InOrder (given_from n ds)
 given_rises n [] = (tt, tt)
-given_rises n (d ∷ ds) = let more = given_rises (n + 1) ds in one_place n d (given_from (n + 1) ds) (from_less n (n + 1) _ (omega arith) more.0) more.1
+given_rises n (d ∷ ds) = let more = given_rises (n + 1) ds in one_index n d (given_from (n + 1) ds) (from_less n (n + 1) _ (omega arith) more.0) more.1
 
 pub given_in_order : (ds : List (List Description)) → InOrder (given_from 0 ds)
 given_in_order ds = (given_rises 0 ds).1
 
-own_places : (p : Probe) (n : ℕ) (ds : List Description) → clauses_selected p (map (λ d. (n, d)) ds) ≡ map (λ d. n) (filter (λ d. selects d p) ds)
-own_places p n [] = refl
-own_places p n (d ∷ ds) = step (own_places p n ds) (selects d p)
+own_indices : (p : Probe) (n : ℕ) (ds : List Description) → clauses_selected p (map (λ d. (n, d)) ds) ≡ map (λ d. n) (filter (λ d. selects d p) ds)
+own_indices p n [] = refl
+own_indices p n (d ∷ ds) = step (own_indices p n ds) (selects d p)
   where
     step : clauses_selected p (map (λ d. (n, d)) ds) ≡ map (λ d. n) (filter (λ d. selects d p) ds) → (b : Bool) → map (λ (x : ℕ × Description). x.0) (cond b ((n, d) ∷ filter (λ x. selects x.1 p) (map (λ d. (n, d)) ds)) (filter (λ x. selects x.1 p) (map (λ d. (n, d)) ds)))
         ≡ map (λ (d : Description). n) (cond b (d ∷ filter (λ d. selects d p) ds) (filter (λ d. selects d p) ds))
     step rest true = ap (λ l. n ∷ l) rest
     step rest false = rest
 
-pub places_given : (p : Probe) (n : ℕ) (ds : List (List Description)) → clauses_selected p (given_from n ds) ≡ places_for p n ds
-places_given p n [] = refl
-places_given p n (d ∷ ds) =
+pub indices_given : (p : Probe) (n : ℕ) (ds : List (List Description)) → clauses_selected p (given_from n ds) ≡ indices_for p n ds
+indices_given p n [] = refl
+indices_given p n (d ∷ ds) =
     ap (map (λ (x : ℕ × Description). x.0)) (filter-append (λ (x : ℕ × Description). selects x.1 p) (map (λ d. (n, d)) d) (given_from (n + 1) ds))
     ∙ map-append (λ (x : ℕ × Description). x.0) (filter (λ (x : ℕ × Description). selects x.1 p) (map (λ d. (n, d)) d)) (filter (λ (x : ℕ × Description). selects x.1 p) (given_from (n + 1) ds))
-    ∙ ap₂ (λ a b. a ++ b) (own_places p n d) (places_given p (n + 1) ds)
+    ∙ ap₂ (λ a b. a ++ b) (own_indices p n d) (indices_given p (n + 1) ds)

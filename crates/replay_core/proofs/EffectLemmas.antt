@@ -24,21 +24,21 @@ texts_then : (a b : List Effect) → texts_in (a ++ b) ≡ texts_in a ++ texts_i
 texts_then [] b = refl
 texts_then (ef.Nothing ∷ a) b = texts_then a b
 texts_then (ef.Says text ∷ a) b = ap (λ l. text ∷ l) (texts_then a b)
-texts_then (ef.Adds place key z ∷ a) b = texts_then a b
+texts_then (ef.Adds index key z ∷ a) b = texts_then a b
 texts_then (ef.Exits status ∷ a) b = texts_then a b
 
 contributions_then : (a b : List Effect) → contributions_in (a ++ b) ≡ contributions_in a ++ contributions_in b
 contributions_then [] b = refl
 contributions_then (ef.Nothing ∷ a) b = contributions_then a b
 contributions_then (ef.Says text ∷ a) b = contributions_then a b
-contributions_then (ef.Adds place key z ∷ a) b = ap (λ l. contribution place key z ∷ l) (contributions_then a b)
+contributions_then (ef.Adds index key z ∷ a) b = ap (λ l. contribution index key z ∷ l) (contributions_then a b)
 contributions_then (ef.Exits status ∷ a) b = contributions_then a b
 
 exit_then : (a b : List Effect) → exit_in (a ++ b) ≡ option_or (exit_in a) (exit_in b)
 exit_then [] b = refl
 exit_then (ef.Nothing ∷ a) b = exit_then a b
 exit_then (ef.Says text ∷ a) b = exit_then a b
-exit_then (ef.Adds place key z ∷ a) b = exit_then a b
+exit_then (ef.Adds index key z ∷ a) b = exit_then a b
 exit_then (ef.Exits status ∷ a) b = refl
 
 abbrev made_of : List (List ℕ) → List Contribution → Option ℕ → Variables → Made
@@ -165,12 +165,12 @@ says number o go x text old new after is same noted =
     subst (λ q. Performs number (with q (λ x. Has (ef.Says (go x)))) old (Ok false) new after) (sym is)
     (refl, subst (λ t. NotesEffect number (ef.Says t) old new) same noted, refl)
 
-pub adds : (number place : ℕ) (o : Outcome (List KeyPart)) (given : Variables → Outcome ℤ) (key : List KeyPart) (z : ℤ) (old new : PieceSeen) (between after : Variables)
-    → o ≡ Has key between → given between ≡ Has z after → NotesEffect number (ef.Adds place key z) old new
-    → Performs number (with o (λ key vars. with (given vars) (λ z. Has (ef.Adds place key z)))) old (Ok false) new after
-adds number place o given key z old new between after keyed is noted =
-    subst (λ q. Performs number (with q (λ key vars. with (given vars) (λ z. Has (ef.Adds place key z)))) old (Ok false) new after) (sym keyed)
-    (subst (λ q. Performs number (with q (λ z. Has (ef.Adds place key z))) old (Ok false) new after) (sym is) (refl, noted, refl))
+pub adds : (number index : ℕ) (o : Outcome (List KeyPart)) (given : Variables → Outcome ℤ) (key : List KeyPart) (z : ℤ) (old new : PieceSeen) (between after : Variables)
+    → o ≡ Has key between → given between ≡ Has z after → NotesEffect number (ef.Adds index key z) old new
+    → Performs number (with o (λ key vars. with (given vars) (λ z. Has (ef.Adds index key z)))) old (Ok false) new after
+adds number index o given key z old new between after keyed is noted =
+    subst (λ q. Performs number (with q (λ key vars. with (given vars) (λ z. Has (ef.Adds index key z)))) old (Ok false) new after) (sym keyed)
+    (subst (λ q. Performs number (with q (λ z. Has (ef.Adds index key z))) old (Ok false) new after) (sym is) (refl, noted, refl))
 
 pub leaves : (number : ℕ) (o : Outcome ℕ) (word : ℕ) (old new : PieceSeen) (after : Variables)
     → o ≡ Has word after → NotesEffect number (ef.Exits (word % 256)) old new

@@ -20,11 +20,11 @@ use Rattle.replay_core.proofs.WorkSteps.{at_of}
 
 -- ---- rows
 
-pub row_ranges : (trace : List Firing) (place : ℕ) (f : Firing) → IsTrace trace → row_before trace place ≡ Some f → HasRanges f
+pub row_ranges : (trace : List Firing) (index : ℕ) (f : Firing) → IsTrace trace → row_before trace index ≡ Some f → HasRanges f
 row_ranges trace zero f are is = absurd cc
 row_ranges trace (suc i) f are is = (at_of IsFiring trace i f are.firings is).ranges
 
-pub row_at : (trace : List Firing) (place : ℕ) (f : Firing) → row_before trace place ≡ Some f → slice_get (with_ends trace trace) place ≡ Some f
+pub row_at : (trace : List Firing) (index : ℕ) (f : Firing) → row_before trace index ≡ Some f → slice_get (with_ends trace trace) index ≡ Some f
 row_at trace zero f is = absurd cc
 row_at trace (suc i) f is =
     let same : suc i - 1 ≡ i = omega arith in
@@ -32,31 +32,31 @@ row_at trace (suc i) f is =
 
 -- ---- lists
 
-pub listed_at : (lists : List (Option (Bor (List ℕ)))) (selected : List (List ℕ)) (places : List ℕ) (i : ℕ) (d : Option (Bor (List ℕ))) → i < length places
-    → map lent (take (length places) lists) ≡ map (slice_get selected) places → lent (get_or lists i d) ≡ slice_get selected (get_or places i 0)
+pub listed_at : (lists : List (Option (Bor (List ℕ)))) (selected : List (List ℕ)) (indices : List ℕ) (i : ℕ) (d : Option (Bor (List ℕ))) → i < length indices
+    → map lent (take (length indices) lists) ≡ map (slice_get selected) indices → lent (get_or lists i d) ≡ slice_get selected (get_or indices i 0)
 listed_at lists selected [] i d lt are = absurd (omega arith)
-listed_at [] selected (p ∷ places) i d lt are = absurd cc
-listed_at (l ∷ lists) selected (p ∷ places) zero d lt are = cc
-listed_at (l ∷ lists) selected (p ∷ places) (suc i) d lt are = listed_at lists selected places i d (omega arith) cc
+listed_at [] selected (p ∷ indices) i d lt are = absurd cc
+listed_at (l ∷ lists) selected (p ∷ indices) zero d lt are = cc
+listed_at (l ∷ lists) selected (p ∷ indices) (suc i) d lt are = listed_at lists selected indices i d (omega arith) cc
 
--- what is made of each place, at one of them
-pub mapped_at : {A : Type 0} (f : ℕ → A) (made : List A) (places : List ℕ) (i : ℕ) → i < length places → made ≡ map f places → slice_get made i ≡ Some (f (get_or places i 0))
-mapped_at f made places i lt are = ap (λ l. slice_get l i) are ∙ slice_get-map f places i ∙ ap (option_map f) (slice_get-get_or places i 0 lt)
+-- what is made of each index, at one of them
+pub mapped_at : {A : Type 0} (f : ℕ → A) (made : List A) (indices : List ℕ) (i : ℕ) → i < length indices → made ≡ map f indices → slice_get made i ≡ Some (f (get_or indices i 0))
+mapped_at f made indices i lt are = ap (λ l. slice_get l i) are ∙ slice_get-map f indices i ∙ ap (option_map f) (slice_get-get_or indices i 0 lt)
 
 -- ---- blocks
 
-few_places : (fs : List Firing) (places : List ℕ) → length (firings_at fs places) ≤ length places
-few_places fs [] = omega arith
-few_places fs (p ∷ places) = first (drop p fs) (few_places fs places)
+few_indices : (fs : List Firing) (indices : List ℕ) → length (firings_at fs indices) ≤ length indices
+few_indices fs [] = omega arith
+few_indices fs (p ∷ indices) = first (drop p fs) (few_indices fs indices)
   where
-    first : (l : List Firing) → length (firings_at fs places) ≤ length places → length (take 1 l ++ firings_at fs places) ≤ suc (length places)
+    first : (l : List Firing) → length (firings_at fs indices) ≤ length indices → length (take 1 l ++ firings_at fs indices) ≤ suc (length indices)
     first [] le = omega arith
     first (x ∷ l) le = omega arith
 
-pub few_counted : (span : Span) (fs : List Firing) (places : List ℕ) → length (filter (is_in span) (firings_at fs places)) ≤ length places
-few_counted span fs places =
-    let a = few_kept (is_in span) (firings_at fs places) in
-    let b = few_places fs places in
+pub few_counted : (span : Span) (fs : List Firing) (indices : List ℕ) → length (filter (is_in span) (firings_at fs indices)) ≤ length indices
+few_counted span fs indices =
+    let a = few_kept (is_in span) (firings_at fs indices) in
+    let b = few_indices fs indices in
     omega arith
 
 pub block_more : (span : Span) (fs : List Firing) (done block : List ℕ)

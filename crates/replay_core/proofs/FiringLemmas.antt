@@ -21,7 +21,7 @@ use Rattle.replay_core.specs.Meaning.{Threads, clauses_for, history, in_turn}
 use Rattle.replay_core.specs.Meaning.{firing_result}
 use Rattle.replay_core.specs.Patterns.{probe_of, selects}
 use Rattle.replay_core.specs.Pieces.{PieceSeen}
-use Rattle.replay_core.specs.Places.{places_for}
+use Rattle.replay_core.specs.Indices.{indices_for}
 use Rattle.replay_core.specs.Steps.AllMade.{run_at, all_made}
 use Rattle.replay_core.proofs.Noting.{append_nil, or_none}
 
@@ -29,27 +29,27 @@ use Rattle.replay_core.proofs.Noting.{append_nil, or_none}
 
 module _ (f : Firing) (all : List ClauseMeant) where
   -- one clause, once for each of these descriptions
-  repeated : (n : ℕ) (c : ClauseMeant) (ds : List Description) (places : List ℕ) (rest : List (ℕ × ClauseMeant)) → slice_get all n ≡ Some c
-      → ((vars : Variables) → all_made f all places vars ≡ in_turn f rest vars)
-      → (vars : Variables) → all_made f all (map (λ d. n) ds ++ places) vars ≡ in_turn f (map (λ d. (n + 1, c)) ds ++ rest) vars
-  repeated n c [] places rest here same vars = same vars
-  repeated n c (d ∷ ds) places rest here same vars =
+  repeated : (n : ℕ) (c : ClauseMeant) (ds : List Description) (indices : List ℕ) (rest : List (ℕ × ClauseMeant)) → slice_get all n ≡ Some c
+      → ((vars : Variables) → all_made f all indices vars ≡ in_turn f rest vars)
+      → (vars : Variables) → all_made f all (map (λ d. n) ds ++ indices) vars ≡ in_turn f (map (λ d. (n + 1, c)) ds ++ rest) vars
+  repeated n c [] indices rest here same vars = same vars
+  repeated n c (d ∷ ds) indices rest here same vars =
       let first : run_at f n (slice_get all n) vars ≡ run_of f (n + 1) c vars = ap (λ o. run_at f n o vars) here in
-      ap (λ m. and_then m (all_made f all (map (λ (d : Description). n) ds ++ places) m.variables)) first
-      ∙ ap (λ m. and_then (run_of f (n + 1) c vars) m) (repeated n c ds places rest here same (run_of f (n + 1) c vars).variables)
+      ap (λ m. and_then m (all_made f all (map (λ (d : Description). n) ds ++ indices) m.variables)) first
+      ∙ ap (λ m. and_then (run_of f (n + 1) c vars) m) (repeated n c ds indices rest here same (run_of f (n + 1) c vars).variables)
 
   all_made_from : (n : ℕ) (cs : List ClauseMeant) → ((i : ℕ) → slice_get all (n + i) ≡ slice_get cs i)
-      → (vars : Variables) → all_made f all (places_for (probe_of f) n (map (λ c. c.descriptions) cs)) vars ≡ in_turn f (clauses_for f (n + 1) cs) vars
+      → (vars : Variables) → all_made f all (indices_for (probe_of f) n (map (λ c. c.descriptions) cs)) vars ≡ in_turn f (clauses_for f (n + 1) cs) vars
   all_made_from n [] same vars = refl
   all_made_from n (c ∷ cs) same vars =
       let here : slice_get all n ≡ Some c = ap (slice_get all) (sym (add-zero n)) ∙ same 0 in
       let more : (i : ℕ) → slice_get all (n + 1 + i) ≡ slice_get cs i = λ i. let e : n + 1 + i ≡ n + suc i = omega arith in ap (slice_get all) e ∙ same (suc i) in
-      let after : (vars : Variables) → all_made f all (places_for (probe_of f) (n + 1) (map (λ c. c.descriptions) cs)) vars ≡ in_turn f (clauses_for f (suc (n + 1)) cs) vars =
+      let after : (vars : Variables) → all_made f all (indices_for (probe_of f) (n + 1) (map (λ c. c.descriptions) cs)) vars ≡ in_turn f (clauses_for f (suc (n + 1)) cs) vars =
       λ v. all_made_from (n + 1) cs more v ∙ ap (λ k. in_turn f (clauses_for f k cs) v) (add-one (n + 1)) in
-      repeated n c (filter (λ d. selects d (probe_of f)) c.descriptions) (places_for (probe_of f) (n + 1) (map (λ c. c.descriptions) cs)) (clauses_for f (suc (n + 1)) cs) here after vars
+      repeated n c (filter (λ d. selects d (probe_of f)) c.descriptions) (indices_for (probe_of f) (n + 1) (map (λ c. c.descriptions) cs)) (clauses_for f (suc (n + 1)) cs) here after vars
 
 pub all_made_are : (m : ScriptMeant) (f : Firing) (vars : Variables)
-    → all_made f m.clauses (places_for (probe_of f) 0 (map (λ c. c.descriptions) m.clauses)) vars ≡ in_turn f (clauses_for f 1 m.clauses) vars
+    → all_made f m.clauses (indices_for (probe_of f) 0 (map (λ c. c.descriptions) m.clauses)) vars ≡ in_turn f (clauses_for f 1 m.clauses) vars
 all_made_are m f vars = all_made_from f m.clauses 0 m.clauses (λ i. ap (slice_get m.clauses) (let e : 0 + i ≡ i = omega arith in e)) vars
 
 -- ---- how many, and where
@@ -61,19 +61,19 @@ length_filter p (x ∷ xs) = elim (p x) as (λ b. length (if b then x ∷ filter
   | false ↦ let less = length_filter p xs in omega arith
 ]
 
-pub places_few : (p : Probe) (n : ℕ) (ds : List (List Description)) → length (places_for p n ds) ≤ sum_by length ds
-places_few p n [] = omega arith
-places_few p n (d ∷ ds) =
+pub indices_few : (p : Probe) (n : ℕ) (ds : List (List Description)) → length (indices_for p n ds) ≤ sum_by length ds
+indices_few p n [] = omega arith
+indices_few p n (d ∷ ds) =
     let own = length_filter (λ d. selects d p) d in
-    let rest = places_few p (n + 1) ds in
+    let rest = indices_few p (n + 1) ds in
     rw (sum_by-cons, length-append, length-map) (omega (arith, own, rest))
 
-pub places_within : (p : Probe) (n : ℕ) (ds : List (List Description)) → All (λ i. i < n + length ds) (places_for p n ds)
-places_within p n [] = λ k d lt. absurd (omega arith)
-places_within p n (d ∷ ds) =
-    All-append (λ i. i < n + suc (length ds)) (map (λ d. n) (filter (λ d. selects d p) d)) (places_for p (n + 1) ds)
+pub indices_within : (p : Probe) (n : ℕ) (ds : List (List Description)) → All (λ i. i < n + length ds) (indices_for p n ds)
+indices_within p n [] = λ k d lt. absurd (omega arith)
+indices_within p n (d ∷ ds) =
+    All-append (λ i. i < n + suc (length ds)) (map (λ d. n) (filter (λ d. selects d p) d)) (indices_for p (n + 1) ds)
     (same (filter (λ d. selects d p) d))
-    (λ k x lt. let rest = places_within p (n + 1) ds k x lt in omega (arith, rest))
+    (λ k x lt. let rest = indices_within p (n + 1) ds k x lt in omega (arith, rest))
   where
     same : (xs : List Description) → All (λ i. i < n + suc (length ds)) (map (λ d. n) xs)
     same [] k y lt = absurd (omega arith)

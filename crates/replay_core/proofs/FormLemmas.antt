@@ -9,21 +9,21 @@ use Rattle.d_types.specs.declared.typed.TypedExpr.{TypedExpr}
 use Rattle.d_types.specs.declared.typed.TypedStmt.{TypedStmt}
 use Rattle.d_types.specs.declared.typed.TypedStmt.TheVariants as s
 use Rattle.firings.specs.declared.firing.Firing.{Firing}
-use Rattle.replay_core.specs.Bounds.{place_in, places_among}
+use Rattle.replay_core.specs.Bounds.{index_in, indices_among}
 use Rattle.replay_core.specs.Forms.{by_expressions, statement_form}
 
-place_same : (x : TypedStmt) → place_in (statement_form x) ≡ place_in (action_of x)
-place_same (s.Evaluate e) = refl
-place_same (s.Trace e) = refl
-place_same (s.Print format arguments) = refl
-place_same (s.Exit e) = refl
-place_same (s.Aggregate place keys argument) = refl
+index_same : (x : TypedStmt) → index_in (statement_form x) ≡ index_in (action_of x)
+index_same (s.Evaluate e) = refl
+index_same (s.Trace e) = refl
+index_same (s.Print format arguments) = refl
+index_same (s.Exit e) = refl
+index_same (s.Aggregate index keys argument) = refl
 
-pub places_same : (all : List TypedStmt) → places_among (map statement_form all) ≡ places_among (actions_of all)
-places_same [] = refl
-places_same (x ∷ rest) =
-    ap (λ n. max n (places_among (map statement_form rest))) (place_same x)
-    ∙ ap (λ n. max (place_in (action_of x)) n) (places_same rest)
+pub indices_same : (all : List TypedStmt) → indices_among (map statement_form all) ≡ indices_among (actions_of all)
+indices_same [] = refl
+indices_same (x ∷ rest) =
+    ap (λ n. max n (indices_among (map statement_form rest))) (index_same x)
+    ∙ ap (λ n. max (index_in (action_of x)) n) (indices_same rest)
 
 module _ (f : Firing) where
   effect_same : (x : TypedStmt) (vars : Variables) → effect_by (by_expressions f) (statement_form x) vars ≡ effect_by (by_trees f) (action_of x) vars
@@ -31,8 +31,8 @@ module _ (f : Firing) where
   effect_same (s.Trace e) vars = refl
   effect_same (s.Print format arguments) vars = refl
   effect_same (s.Exit e) vars = refl
-  effect_same (s.Aggregate place keys None) vars = refl
-  effect_same (s.Aggregate place keys (Some e)) vars = refl
+  effect_same (s.Aggregate index keys None) vars = refl
+  effect_same (s.Aggregate index keys (Some e)) vars = refl
 
   statements_same : (all : List TypedStmt) (vars : Variables)
       → statements_by (by_expressions f) (map statement_form all) vars ≡ statements_by (by_trees f) (actions_of all) vars

@@ -11,7 +11,7 @@ pub mod SelectionLemmas
 pub mod ThreadLemmas
 pub mod FiringLemmas
 pub mod RunLemmas
-pub mod PlaceLemmas
+pub mod IndexLemmas
 pub mod DescriptionLemmas
 pub mod ExitLemmas
 pub mod LeastExit
@@ -22,7 +22,7 @@ pub mod Weights
 pub mod GroupSums
 pub mod Restricting
 pub mod NumberOrder
-pub mod PlacesMerged
+pub mod IndicesMerged
 pub mod DescribedLemmas
 pub mod GroupTexts
 pub mod GroupExits

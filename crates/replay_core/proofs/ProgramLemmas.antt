@@ -16,35 +16,35 @@ use Rattle.dif_codegen.specs.Meaning.{IsSameClause}
 use Rattle.dif_codegen.proofs.Exiting.{aggregation_of, same_aggregations}
 use Rattle.dif_codegen.specs.Programs.{action_code}
 use Rattle.dif_codegen.specs.declared.program.CompiledClause.{CompiledClause}
-use Rattle.replay_core.specs.Bounds.{place_in, places_among, places_in}
+use Rattle.replay_core.specs.Bounds.{index_in, indices_among, indices_in}
 use Rattle.replay_core.proofs.TreeLemmas.{one_of_all, script_named}
 use Rattle.replay_core.proofs.Turning.{zip_with_at}
 
--- above the place of the aggregation, if there is one
+-- above the index of the aggregation, if there is one
 abbrev above : Option ℕ → ℕ
 above None = 0
-above (Some place) = place + 1
+above (Some index) = index + 1
 
 abbrev above_all : List (Option ℕ) → ℕ
 above_all [] = 0
-above_all (place ∷ places) = max (above place) (above_all places)
+above_all (index ∷ indices) = max (above index) (above_all indices)
 
-place_above : {E Es : Type 0} (a : ActionOf E Es) → place_in a ≡ above (aggregation_of a)
-place_above (Evaluate x) = refl
-place_above (Trace x) = refl
-place_above (Print format arguments) = refl
-place_above (Exit x) = refl
-place_above (Aggregate place keys argument) = refl
+index_above : {E Es : Type 0} (a : ActionOf E Es) → index_in a ≡ above (aggregation_of a)
+index_above (Evaluate x) = refl
+index_above (Trace x) = refl
+index_above (Print format arguments) = refl
+index_above (Exit x) = refl
+index_above (Aggregate index keys argument) = refl
 
-places_above : {E Es : Type 0} (all : List (ActionOf E Es)) → places_among all ≡ above_all (map (λ a. aggregation_of a) all)
-places_above [] = refl
-places_above (a ∷ rest) =
-    ap (λ n. max n (places_among rest)) (place_above a) ∙ ap (λ n. max (above (aggregation_of a)) n) (places_above rest)
+indices_above : {E Es : Type 0} (all : List (ActionOf E Es)) → indices_among all ≡ above_all (map (λ a. aggregation_of a) all)
+indices_above [] = refl
+indices_above (a ∷ rest) =
+    ap (λ n. max n (indices_among rest)) (index_above a) ∙ ap (λ n. max (above (aggregation_of a)) n) (indices_above rest)
 
 module _ (slots : Slots) where
-  same_places : (c : CompiledClause) (m : ClauseMeant) → IsSameClause slots c m → places_among (map action_code c.actions.items) ≡ places_in m
-  same_places c m does =
-      places_above (map action_code c.actions.items) ∙ ap above_all (same_aggregations slots (map action_code c.actions.items) m.statements does.actions) ∙ sym (places_above m.statements)
+  same_indices : (c : CompiledClause) (m : ClauseMeant) → IsSameClause slots c m → indices_among (map action_code c.actions.items) ≡ indices_in m
+  same_indices c m does =
+      indices_above (map action_code c.actions.items) ∙ ap above_all (same_aggregations slots (map action_code c.actions.items) m.statements does.actions) ∙ sym (indices_above m.statements)
 
   same_statements : (c : CompiledClause) (m : ClauseMeant) → IsSameClause slots c m → length c.actions.items ≡ statement_count m
   same_statements c m does =
@@ -62,10 +62,10 @@ module _ (slots : Slots) where
       ∙ ap (λ n. length m.descriptions + n) (same_probes cs ms zip.1)
 
 module _ (m : ScriptMeant) (typed : ∥ IsMeant m ∥₁) (cs : List CompiledClause) (zip : AllZip (IsSameClause (slots_of m)) cs m.clauses) where
-  pub program_named : All (λ c. places_among (map action_code c.actions.items) ≤ length m.aggregations) cs
+  pub program_named : All (λ c. indices_among (map action_code c.actions.items) ≤ length m.aggregations) cs
   program_named k d lt =
-      let at = zip_with_at (IsSameClause (slots_of m)) (λ c. places_in c ≤ length m.aggregations) cs m.clauses k d zip (script_named m typed) lt in
-      subst (λ n. n ≤ length m.aggregations) (sym (same_places (slots_of m) (get_or cs k d) at.0 at.2)) at.3
+      let at = zip_with_at (IsSameClause (slots_of m)) (λ c. indices_in c ≤ length m.aggregations) cs m.clauses k d zip (script_named m typed) lt in
+      subst (λ n. n ≤ length m.aggregations) (sym (same_indices (slots_of m) (get_or cs k d) at.0 at.2)) at.3
 
   few_here : All (λ c. statement_count c ≤ 65536) m.clauses
   few_here k d lt =

@@ -106,11 +106,11 @@ own_stays entries thread t = elim (int_eq t thread) as (λ b. int_eq t thread �
   | false ↦ λ other. refl
 ] refl
 
--- no clause runs at no places
-pub none_turn : (f : Firing) (cs : List ClauseMeant) (places : List ℕ) (start : Variables) → (length places == 0) ≡ true → all_made f cs places start ≡ nothing_made start
+-- no clause runs at no indices
+pub none_turn : (f : Firing) (cs : List ClauseMeant) (indices : List ℕ) (start : Variables) → (length indices == 0) ≡ true → all_made f cs indices start ≡ nothing_made start
 none_turn f cs [] start none = refl
-none_turn f cs (place ∷ places) start none =
-    let zeroth : length (place ∷ places) ≡ 0 = (Decides-eqb (length (place ∷ places)) 0).0 none in absurd (omega arith)
+none_turn f cs (index ∷ indices) start none =
+    let zeroth : length (index ∷ indices) ≡ 0 = (Decides-eqb (length (index ∷ indices)) 0).0 none in absurd (omega arith)
 
 -- ---- types
 
@@ -125,17 +125,17 @@ module _ (slots : Slots) (f : Firing) (fit : HasTypedBuiltIns f) where
       turn_kept cs (run_of f c.0 c.1 vars).variables (λ k d lt. keep (suc k) d (omega (arith, lt)))
       (keep 0 c (omega arith) f c.0 vars fit typed)
 
-  same_kept : (place : ℕ) (c : ClauseMeant) (ds : List Description) → Keeps slots c → AllKeep (map (λ d. (place, c)) ds)
-  same_kept place c [] keep k d lt = absurd (omega arith)
-  same_kept place c (x ∷ ds) keep zero d lt = keep
-  same_kept place c (x ∷ ds) keep (suc k) d lt = same_kept place c ds keep k d (omega (arith, lt))
+  same_kept : (index : ℕ) (c : ClauseMeant) (ds : List Description) → Keeps slots c → AllKeep (map (λ d. (index, c)) ds)
+  same_kept index c [] keep k d lt = absurd (omega arith)
+  same_kept index c (x ∷ ds) keep zero d lt = keep
+  same_kept index c (x ∷ ds) keep (suc k) d lt = same_kept index c ds keep k d (omega (arith, lt))
 
-  for_kept : (place : ℕ) (cs : List ClauseMeant) → All (Keeps slots) cs → AllKeep (clauses_for f place cs)
-  for_kept place [] keep = λ k d lt. absurd (omega arith)
-  for_kept place (c ∷ cs) keep =
-      All-append (λ x. Keeps slots x.1) (map (λ d. (place, c)) (filter (λ d. selects d (probe_of f)) c.descriptions)) (clauses_for f (suc place) cs)
-      (same_kept place c (filter (λ d. selects d (probe_of f)) c.descriptions) (keep 0 c (omega arith)))
-      (for_kept (suc place) cs (λ k d lt. keep (suc k) d (omega (arith, lt))))
+  for_kept : (index : ℕ) (cs : List ClauseMeant) → All (Keeps slots) cs → AllKeep (clauses_for f index cs)
+  for_kept index [] keep = λ k d lt. absurd (omega arith)
+  for_kept index (c ∷ cs) keep =
+      All-append (λ x. Keeps slots x.1) (map (λ d. (index, c)) (filter (λ d. selects d (probe_of f)) c.descriptions)) (clauses_for f (suc index) cs)
+      (same_kept index c (filter (λ d. selects d (probe_of f)) c.descriptions) (keep 0 c (omega arith)))
+      (for_kept (suc index) cs (λ k d lt. keep (suc k) d (omega (arith, lt))))
 
 pub typed_after : (m : ScriptMeant) (f : Firing) (threads : Threads) → All (Keeps (slots_of m)) m.clauses → HasTypedBuiltIns f
     → AreTypedThreads (slots_of m) threads → AreTypedThreads (slots_of m) (threads_after m f threads)

@@ -45,7 +45,7 @@ pub all_count : (fs : List Firing) → filter (is_in span.All) fs ≡ fs
 all_count [] = refl
 all_count (f ∷ fs) = ap (λ l. f ∷ l) (all_count fs)
 
--- ---- places
+-- ---- indices
 
 in_front : (xs ys : List Firing) (k : ℕ) (f : Firing) → slice_get xs k ≡ Some f → slice_get (xs ++ ys) k ≡ Some f
 in_front [] ys zero f e = absurd cc
@@ -53,7 +53,7 @@ in_front [] ys (suc k) f e = absurd cc
 in_front (x ∷ xs) ys zero f e = e
 in_front (x ∷ xs) ys (suc k) f e = in_front xs ys k f e
 
-pub at_row : (trace : List Firing) (place : ℕ) (f : Firing) → 0 < place → slice_get trace (place - 1) ≡ Some f → slice_get (with_ends trace trace) place ≡ Some f
+pub at_row : (trace : List Firing) (index : ℕ) (f : Firing) → 0 < index → slice_get trace (index - 1) ≡ Some f → slice_get (with_ends trace trace) index ≡ Some f
 at_row trace zero f some e = absurd (omega arith)
 at_row trace (suc k) f some e =
     let same : suc k - 1 ≡ k = omega arith in
@@ -65,7 +65,7 @@ at_last [] (suc k) f e = absurd (omega arith)
 at_last (x ∷ xs) zero f e = absurd (omega arith)
 at_last (x ∷ xs) (suc k) f e = at_last xs k f (omega arith)
 
-pub at_end : (trace : List Firing) (place : ℕ) → place ≡ length trace + 1 → slice_get (with_ends trace trace) place ≡ Some (end_of trace)
+pub at_end : (trace : List Firing) (index : ℕ) → index ≡ length trace + 1 → slice_get (with_ends trace trace) index ≡ Some (end_of trace)
 at_end trace zero e = absurd (omega arith)
 at_end trace (suc k) e = at_last trace k (end_of trace) (omega arith)
 

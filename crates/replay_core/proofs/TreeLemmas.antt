@@ -21,22 +21,22 @@ use Rattle.d_types.proofs.ConsistentScripts.{script_is_consistent}
 use Rattle.d_types.proofs.HoldingRuns.{run_kept}
 use Rattle.d_types.proofs.Proper.{script_is_proper}
 use Rattle.d_types.proofs.Sizes.{typed_script_is_small}
-use Rattle.replay_core.specs.Bounds.{place_in, places_among, places_in}
+use Rattle.replay_core.specs.Bounds.{index_in, indices_among, indices_in}
 use Rattle.replay_core.specs.Scripts.{Keeps}
 use Rattle.d_types.specs.Typed.{functions_in}
 
-place_below : (aggs : Aggs) (a : Action) → IsProperAction aggs a → place_in a ≤ length aggs
-place_below aggs (Evaluate x) is = omega arith
-place_below aggs (Trace x) is = omega arith
-place_below aggs (Print format arguments) is = omega arith
-place_below aggs (Exit x) is = omega arith
-place_below aggs (Aggregate place keys argument) is = omega (arith, is.0)
+index_below : (aggs : Aggs) (a : Action) → IsProperAction aggs a → index_in a ≤ length aggs
+index_below aggs (Evaluate x) is = omega arith
+index_below aggs (Trace x) is = omega arith
+index_below aggs (Print format arguments) is = omega arith
+index_below aggs (Exit x) is = omega arith
+index_below aggs (Aggregate index keys argument) is = omega (arith, is.0)
 
-places_below : (aggs : Aggs) (all : List Action) → All (IsProperAction aggs) all → places_among all ≤ length aggs
-places_below aggs [] are = omega arith
-places_below aggs (a ∷ rest) are =
-    let first = place_below aggs a (are 0 a (omega arith)) in
-    let others = places_below aggs rest (λ k d lt. are (suc k) d (omega arith)) in
+indices_below : (aggs : Aggs) (all : List Action) → All (IsProperAction aggs) all → indices_among all ≤ length aggs
+indices_below aggs [] are = omega arith
+indices_below aggs (a ∷ rest) are =
+    let first = index_below aggs a (are 0 a (omega arith)) in
+    let others = indices_below aggs rest (λ k d lt. are (suc k) d (omega arith)) in
     omega (arith, first, others)
 
 pub one_of_all : {A : Type 0} (h : A → ℕ) (xs : List A) (k : ℕ) (d : A) → k < length xs → h (get_or xs k d) ≤ in_all h xs
@@ -44,8 +44,8 @@ one_of_all h [] k d lt = absurd (omega arith)
 one_of_all h (x ∷ xs) zero d lt = omega arith
 one_of_all h (x ∷ xs) (suc k) d lt = let less = one_of_all h xs k d (omega arith) in omega arith
 
-pub script_named : (m : ScriptMeant) → ∥ IsMeant m ∥₁ → All (λ c. places_in c ≤ length m.aggregations) m.clauses
-script_named m typed k d lt = places_below m.aggregations (get_or m.clauses k d).statements (script_is_proper m typed k d lt).statements
+pub script_named : (m : ScriptMeant) → ∥ IsMeant m ∥₁ → All (λ c. indices_in c ≤ length m.aggregations) m.clauses
+script_named m typed k d lt = indices_below m.aggregations (get_or m.clauses k d).statements (script_is_proper m typed k d lt).statements
 
 -- the sum, by recursion from the front
 total : (cs : List TypedClause) → sum_by (λ c. length c.descriptions.items) cs ≡ in_all description_count (map meant_of cs)
@@ -53,15 +53,15 @@ total [] = refl
 total (c ∷ cs) = sum_by-cons (λ (c : TypedClause). length c.descriptions.items) c cs ∙ ap (λ n. length c.descriptions.items + n) (total cs)
 
 module _ (clauses : List TypedClause) (aggs : List TypedAggregation) (slots : List (Option DType)) (typed : ∥ IsMeant (script_meant clauses aggs slots) ∥₁) where
-  pub all_named : All (λ c. places_in (meant_of c) ≤ length aggs) clauses
+  pub all_named : All (λ c. indices_in (meant_of c) ≤ length aggs) clauses
   all_named k d lt =
       let m = script_meant clauses aggs slots in
       let many = length-map clauses meant_of in
       let here = math.get_or-map meant_of clauses k d in
       let proper = script_is_proper m typed k (meant_of d) (omega arith) in
-      let below = places_below m.aggregations _ proper.statements in
+      let below = indices_below m.aggregations _ proper.statements in
       let few = length-map aggs agg_of in
-      subst (λ c. places_in c ≤ length aggs) here (omega (arith, below, few))
+      subst (λ c. indices_in c ≤ length aggs) here (omega (arith, below, few))
 
   pub all_few : All (λ c. statement_count (meant_of c) ≤ 65536) clauses
   all_few k d lt =
@@ -89,7 +89,7 @@ functions_same clauses (a ∷ aggs) slots = ap (λ l. a.function ∷ l) (functio
 -- ---- types
 
 clauses_keep : (slots : Slots) (cs : List ClauseMeant) → All (ClauseIs (IsConsistent slots)) cs → All (Keeps slots) cs
-clauses_keep slots cs are k d lt f place vars fit typed = run_kept slots f fit place (get_or cs k d) vars (are k d lt) typed
+clauses_keep slots cs are k d lt f index vars fit typed = run_kept slots f fit index (get_or cs k d) vars (are k d lt) typed
 
 pub script_keeps : (m : ScriptMeant) → ∥ IsMeant m ∥₁ → All (Keeps (slots_of m)) m.clauses
 script_keeps m meant = clauses_keep (slots_of m) m.clauses (script_is_consistent m meant)

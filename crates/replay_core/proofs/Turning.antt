@@ -49,15 +49,15 @@ module _ (f : Firing) (cs : List ClauseMeant) where
   some_or false (Some s) b = refl
 
   -- one more turn
-  pub continues_more : (all left : List ℕ) (place : ℕ) (before now after : Variables) (old new next : PieceSeen) (exits more : Bool) (made : Made)
-      → Continues f cs all (place ∷ left) before now old new exits
-      → run_at f place (slice_get cs place) now ≡ made → made.variables ≡ after → Notes f.number made new next → more ≡ (exits || is_some made.exit)
+  pub continues_more : (all left : List ℕ) (index : ℕ) (before now after : Variables) (old new next : PieceSeen) (exits more : Bool) (made : Made)
+      → Continues f cs all (index ∷ left) before now old new exits
+      → run_at f index (slice_get cs index) now ≡ made → made.variables ≡ after → Notes f.number made new next → more ≡ (exits || is_some made.exit)
       → Continues f cs all left before after old next more
-  continues_more all left place before now after old new next exits more made so_far is vars noted more_is =
-      let first = run_at f place (slice_get cs place) now in
+  continues_more all left index before now after old new next exits more made so_far is vars noted more_is =
+      let first = run_at f index (slice_get cs index) now in
       let same : first.variables ≡ after = ap (λ m. m.variables) is ∙ vars in
       let rest_is : all_made f cs left first.variables ≡ all_made f cs left after = ap (all_made f cs left) same in
-      let turn : all_made f cs (place ∷ left) now ≡ and_then made (all_made f cs left after) =
+      let turn : all_made f cs (index ∷ left) now ≡ and_then made (all_made f cs left after) =
       ap (λ m. and_then m (all_made f cs left m.variables)) is ∙ ap (λ v. and_then made (all_made f cs left v)) vars in
       record {
         notes = λ end h. so_far.notes end
@@ -69,18 +69,18 @@ module _ (f : Firing) (cs : List ClauseMeant) where
 
   -- one more turn, of a clause that means the script's
   pub turn_more : {C : Type 0} (means : C → Slots → ClauseMeant → Type 0) (slots : Slots) (clauses : List C) (clause : C)
-      (all left : List ℕ) (place : ℕ) (before now after : Variables) (old new next : PieceSeen) (exits more : Bool)
-      → AllMean means slots clauses cs → place < length clauses → clause ≡ get_or clauses place clause → HasTypedBuiltIns f
-      → ((c : ClauseMeant) → means clause slots c → NotesRun f.number (run_of f (place + 1) c now) new next after more)
-      → AreTyped slots now × Continues f cs all (place ∷ left) before now old new exits
+      (all left : List ℕ) (index : ℕ) (before now after : Variables) (old new next : PieceSeen) (exits more : Bool)
+      → AllMean means slots clauses cs → index < length clauses → clause ≡ get_or clauses index clause → HasTypedBuiltIns f
+      → ((c : ClauseMeant) → means clause slots c → NotesRun f.number (run_of f (index + 1) c now) new next after more)
+      → AreTyped slots now × Continues f cs all (index ∷ left) before now old new exits
       → AreTyped slots after × Continues f cs all left before after old next (exits || more)
-  turn_more means slots clauses clause all left place before now after old new next exits more mean inside is fit ran so_far =
-      let at = zip_with_at (λ x. means x slots) (Keeps slots) clauses cs place clause mean.each mean.keep inside in
-      let run = run_of f (place + 1) at.0 now in
+  turn_more means slots clauses clause all left index before now after old new next exits more mean inside is fit ran so_far =
+      let at = zip_with_at (λ x. means x slots) (Keeps slots) clauses cs index clause mean.each mean.keep inside in
+      let run = run_of f (index + 1) at.0 now in
       let here = ran at.0 (subst (λ x. means x slots at.0) (sym is) at.2) in
-      let runs : run_at f place (slice_get cs place) now ≡ run = ap (λ o. run_at f place o now) at.1 in (
-        subst (AreTyped slots) (sym here.variables) (at.3 f (place + 1) now fit so_far.0),
-        continues_more all left place before now after old new next exits (exits || more) run so_far.1 runs (sym here.variables) here.notes (ap (λ b. exits || b) here.exited),
+      let runs : run_at f index (slice_get cs index) now ≡ run = ap (λ o. run_at f index o now) at.1 in (
+        subst (AreTyped slots) (sym here.variables) (at.3 f (index + 1) now fit so_far.0),
+        continues_more all left index before now after old new next exits (exits || more) run so_far.1 runs (sym here.variables) here.notes (ap (λ b. exits || b) here.exited),
       )
 
   -- none is left

@@ -44,7 +44,7 @@ goes_with (Faults vars) go goes = tt
 skipped : (e : Effect) (rest : List Effect) → Stays e → exit_in (e ∷ rest) ≡ exit_in rest
 skipped ef.Nothing rest stays = refl
 skipped (ef.Says text) rest stays = refl
-skipped (ef.Adds place key z) rest stays = refl
+skipped (ef.Adds index key z) rest stays = refl
 skipped (ef.Exits status) rest stays = absurd stays
 
 module _ (by : Evaluation Typed Typeds) where
@@ -53,7 +53,7 @@ module _ (by : Evaluation Typed Typeds) where
   effect_goes (Trace a) vars without = goes_with (by.value a vars) _ (λ x vars. tt)
   effect_goes (Print format arguments) vars without = goes_with (by.values arguments vars) _ (λ x vars. tt)
   effect_goes (Exit a) vars without = absurd (let c : true ≡ false = without in cc)
-  effect_goes (Aggregate place keys argument) vars without =
+  effect_goes (Aggregate index keys argument) vars without =
       goes_with (by.key keys vars) _ (λ key vars. goes_with (argument_by by argument vars) _ (λ z vars. tt))
 
   followed_goes : (o : Outcome Effect) (go : Variables → Ran) → Goes o → ((vars : Variables) → exit_in (go vars).effects ≡ None) → exit_in (effect_then o go).effects ≡ None
@@ -85,16 +85,16 @@ all_append : (xs ys : List (ℕ × ClauseMeant)) → AllGo xs → AllGo ys → A
 all_append [] ys a b = b
 all_append (x ∷ xs) ys a b = (a.0, all_append xs ys a.1 b)
 
-all_placed : {D : Type 0} (place : ℕ) (c : ClauseMeant) (ds : List D) → list_any (λ a. is_exit a) c.statements ≡ false → AllGo (map (λ d. (place, c)) ds)
-all_placed place c [] without = tt
-all_placed place c (d ∷ ds) without = (without, all_placed place c ds without)
+all_placed : {D : Type 0} (index : ℕ) (c : ClauseMeant) (ds : List D) → list_any (λ a. is_exit a) c.statements ≡ false → AllGo (map (λ d. (index, c)) ds)
+all_placed index c [] without = tt
+all_placed index c (d ∷ ds) without = (without, all_placed index c ds without)
 
-clauses_go : (f : Firing) (place : ℕ) (cs : List ClauseMeant) → list_any (λ c. list_any (λ a. is_exit a) c.statements) cs ≡ false → AllGo (clauses_for f place cs)
-clauses_go f place [] without = tt
-clauses_go f place (c ∷ cs) without =
+clauses_go : (f : Firing) (index : ℕ) (cs : List ClauseMeant) → list_any (λ c. list_any (λ a. is_exit a) c.statements) cs ≡ false → AllGo (clauses_for f index cs)
+clauses_go f index [] without = tt
+clauses_go f index (c ∷ cs) without =
     let both = either (list_any (λ a. is_exit a) c.statements) (list_any (λ c. list_any (λ a. is_exit a) c.statements) cs) without in
-    all_append (map (λ d. (place, c)) (filter (λ d. selects d (probe_of f)) c.descriptions)) (clauses_for f (suc place) cs)
-    (all_placed place c (filter (λ d. selects d (probe_of f)) c.descriptions) both.0) (clauses_go f (suc place) cs both.1)
+    all_append (map (λ d. (index, c)) (filter (λ d. selects d (probe_of f)) c.descriptions)) (clauses_for f (suc index) cs)
+    (all_placed index c (filter (λ d. selects d (probe_of f)) c.descriptions) both.0) (clauses_go f (suc index) cs both.1)
 
 turn_goes : (f : Firing) (cs : List (ℕ × ClauseMeant)) (vars : Variables) → AllGo cs → (in_turn f cs vars).exit ≡ None
 turn_goes f [] vars all = refl

@@ -17,7 +17,7 @@ use Rattle.replay_core.specs.Working.{is_in}
 use Rattle.replay_core.specs.Steps.Working.{firings_at}
 use Rattle.replay_core.proofs.TraceRuns.{few_kept}
 
--- ---- places
+-- ---- indices
 
 pub at_of : {X : Type 0} (P : X → Type 0) (xs : List X) (k : ℕ) (x : X) → All P xs → slice_get xs k ≡ Some x → P x
 at_of P [] zero x all e = absurd cc
@@ -25,39 +25,39 @@ at_of P [] (suc k) x all e = absurd cc
 at_of P (y ∷ xs) zero x all e = let same : y ≡ x = cc in subst P same (all 0 y (omega arith))
 at_of P (y ∷ xs) (suc k) x all e = at_of P xs k x (λ j d lt. all (suc j) d (omega arith)) e
 
-pub one_at : (fs : List Firing) (place : ℕ) (f : Firing) → slice_get fs place ≡ Some f → take 1 (drop place fs) ≡ f ∷ []
+pub one_at : (fs : List Firing) (index : ℕ) (f : Firing) → slice_get fs index ≡ Some f → take 1 (drop index fs) ≡ f ∷ []
 one_at [] zero f e = absurd cc
 one_at [] (suc k) f e = absurd cc
 one_at (x ∷ fs) zero f e = let same : x ≡ f = cc in ap (λ y. y ∷ []) same
 one_at (x ∷ fs) (suc k) f e = one_at fs k f e
 
--- one place more
-pub at_more : (fs : List Firing) (places : List ℕ) (i place : ℕ) (f : Firing) → i < length places → get_or places i place ≡ place → slice_get fs place ≡ Some f
-    → firings_at fs (take (i + 1) places) ≡ firings_at fs (take i places) ++ f ∷ []
-at_more fs places i place f lt item is =
-    ap (firings_at fs) (take_next places i place lt item)
-    ∙ flat_map-append (λ p. take 1 (drop p fs)) (take i places) (place ∷ [])
-    ∙ ap (λ l. firings_at fs (take i places) ++ (l ++ [])) (one_at fs place f is)
+-- one index more
+pub at_more : (fs : List Firing) (indices : List ℕ) (i index : ℕ) (f : Firing) → i < length indices → get_or indices i index ≡ index → slice_get fs index ≡ Some f
+    → firings_at fs (take (i + 1) indices) ≡ firings_at fs (take i indices) ++ f ∷ []
+at_more fs indices i index f lt item is =
+    ap (firings_at fs) (take_next indices i index lt item)
+    ∙ flat_map-append (λ p. take 1 (drop p fs)) (take i indices) (index ∷ [])
+    ∙ ap (λ l. firings_at fs (take i indices) ++ (l ++ [])) (one_at fs index f is)
 
-pub kept_more : (span : Span) (fs : List Firing) (places : List ℕ) (i place : ℕ) (f : Firing) → i < length places → get_or places i place ≡ place → slice_get fs place ≡ Some f
-    → filter (is_in span) (firings_at fs (take (i + 1) places)) ≡ filter (is_in span) (firings_at fs (take i places)) ++ filter (is_in span) (f ∷ [])
-kept_more span fs places i place f lt item is =
-    ap (filter (is_in span)) (at_more fs places i place f lt item is)
-    ∙ filter-append (is_in span) (firings_at fs (take i places)) (f ∷ [])
+pub kept_more : (span : Span) (fs : List Firing) (indices : List ℕ) (i index : ℕ) (f : Firing) → i < length indices → get_or indices i index ≡ index → slice_get fs index ≡ Some f
+    → filter (is_in span) (firings_at fs (take (i + 1) indices)) ≡ filter (is_in span) (firings_at fs (take i indices)) ++ filter (is_in span) (f ∷ [])
+kept_more span fs indices i index f lt item is =
+    ap (filter (is_in span)) (at_more fs indices i index f lt item is)
+    ∙ filter-append (is_in span) (firings_at fs (take i indices)) (f ∷ [])
 
-pub few_at : (fs : List Firing) (i : ℕ) (places : List ℕ) → length (firings_at fs (take i places)) ≤ i
-few_at fs zero places = omega arith
+pub few_at : (fs : List Firing) (i : ℕ) (indices : List ℕ) → length (firings_at fs (take i indices)) ≤ i
+few_at fs zero indices = omega arith
 few_at fs (suc i) [] = omega arith
-few_at fs (suc i) (p ∷ places) = first (drop p fs) (few_at fs i places)
+few_at fs (suc i) (p ∷ indices) = first (drop p fs) (few_at fs i indices)
   where
-    first : (l : List Firing) → length (firings_at fs (take i places)) ≤ i → length (take 1 l ++ firings_at fs (take i places)) ≤ suc i
+    first : (l : List Firing) → length (firings_at fs (take i indices)) ≤ i → length (take 1 l ++ firings_at fs (take i indices)) ≤ suc i
     first [] le = omega arith
     first (x ∷ l) le = omega arith
 
-pub few_run : (span : Span) (fs : List Firing) (i : ℕ) (places : List ℕ) → length (filter (is_in span) (firings_at fs (take i places))) ≤ i
-few_run span fs i places =
-    let a = few_kept (is_in span) (firings_at fs (take i places)) in
-    let b = few_at fs i places in
+pub few_run : (span : Span) (fs : List Firing) (i : ℕ) (indices : List ℕ) → length (filter (is_in span) (firings_at fs (take i indices))) ≤ i
+few_run span fs i indices =
+    let a = few_kept (is_in span) (firings_at fs (take i indices)) in
+    let b = few_at fs i indices in
     omega arith
 
 -- ---- a firing that counts, and one that doesn't

@@ -19,4 +19,4 @@ statement_form (TypedStmt.Evaluate e) = Evaluate e
 statement_form (TypedStmt.Trace e) = Trace e
 statement_form (TypedStmt.Print format arguments) = Print format.items arguments.items
 statement_form (TypedStmt.Exit e) = Exit e
-statement_form (TypedStmt.Aggregate place keys argument) = Aggregate place keys.items argument
+statement_form (TypedStmt.Aggregate index keys argument) = Aggregate index keys.items argument

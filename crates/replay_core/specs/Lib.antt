@@ -7,7 +7,7 @@ pub mod Pieces
 pub mod Layouts
 pub mod Lanes
 pub mod Bounds
-pub mod Places
+pub mod Indices
 pub mod Selecting
 pub mod Seen
 pub mod Sizes

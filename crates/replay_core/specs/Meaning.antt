@@ -17,13 +17,13 @@ blank_threads thread var key = blank var.kind
 
 -- ---- a firing
 
--- the clauses that run, each with its place from 1: in the script's order, once for each
+-- the clauses that run, each with its index from 1: in the script's order, once for each
 -- description that selects the firing's probe
 abbrev pub clauses_for : Firing → ℕ → List ClauseMeant → List (ℕ × ClauseMeant)
-clauses_for f place [] = []
-clauses_for f place (c ∷ cs) =
-    map (λ d. (place, c)) (filter (λ d. selects d (probe_of f)) c.descriptions)
-    ++ clauses_for f (suc place) cs
+clauses_for f index [] = []
+clauses_for f index (c ∷ cs) =
+    map (λ d. (index, c)) (filter (λ d. selects d (probe_of f)) c.descriptions)
+    ++ clauses_for f (suc index) cs
 
 -- clauses run one after the other
 abbrev pub in_turn : Firing → List (ℕ × ClauseMeant) → Variables → Made

@@ -7,8 +7,8 @@ use Rattle.replay_core.specs.Meaning.{Threads}
 
 -- variables that hold values of their types do so after each run of the clause
 abbrev pub Keeps : Slots → ClauseMeant → Type 0
-Keeps slots c = (f : Firing) (place : ℕ) (vars : Variables) → HasTypedBuiltIns f
-    → AreTyped slots vars → AreTyped slots (run_of f place c vars).variables
+Keeps slots c = (f : Firing) (index : ℕ) (vars : Variables) → HasTypedBuiltIns f
+    → AreTyped slots vars → AreTyped slots (run_of f index c vars).variables
 
 -- what each thread keeps is of the types of the variables
 abbrev pub AreTypedThreads : Slots → Threads → Type 0

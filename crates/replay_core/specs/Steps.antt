@@ -12,7 +12,7 @@ pub mod Merging
 pub mod OnThread
 pub mod Patterns
 pub mod PiecePlaces
-pub mod Places
+pub mod Indices
 pub mod Seen
 pub mod Worked
 pub mod Working

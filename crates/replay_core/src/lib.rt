@@ -24,7 +24,7 @@ pub use lanes::piece::Piece;
 pub use lanes::tree::{TreeLane, TreeLanes, tree_lane};
 pub use layout::Layout;
 pub use selection::Selections;
-pub use selection::clause_places::ClausePlaces;
+pub use selection::clause_indices::ClauseIndices;
 pub use statements::{printf_text, trace_line};
 pub use workers::gate::{Gate, OpenGate};
 pub use workers::run_all;

@@ -1,33 +1,33 @@
 //! Which clauses run for each firing of a run: decided once for each probe, before any fires.
 
+pub(crate) mod clause_indices;
 pub(crate) mod clause_lists;
-pub(crate) mod clause_places;
+pub(crate) mod indices;
 pub(crate) mod matching;
-pub(crate) mod places;
 pub(crate) mod table;
 
 ghost use Rattle.std.specs.Prelude.{◌≡◌, ◌≤◌, IfOk, List, OnOk, Some, [], get_or};
 ghost use Rattle.std.specs.Prelude.{length, map, slice_get, sum_by, take};
-ghost use Rattle.replay_core.specs.Vocabulary.{AllZip, ArePlaces, ClauseMeant, Description};
+ghost use Rattle.replay_core.specs.Vocabulary.{AllZip, AreIndices, ClauseMeant, Description};
 ghost use Rattle.replay_core.specs.Vocabulary.{Extends, MAX_BYTES, MAX_TOGETHER, ScriptMeant};
 ghost use Rattle.replay_core.specs.Vocabulary.{Slots, slots_of, with_ends};
-ghost use Rattle.replay_core.specs.{Places.places_for};
+ghost use Rattle.replay_core.specs.{Indices.indices_for};
 ghost use Rattle.replay_core.specs.Steps.Described.{IsTableOf};
 ghost use Rattle.replay_core.specs.{Patterns.probe_of};
 ghost use Rattle.replay_core.specs.Selecting.{AreSelected, lent, selected_for};
 
 use crate::lanes::clause::Clause;
+use crate::selection::clause_indices::ClauseIndices;
 use crate::selection::clause_lists::ClauseLists;
-use crate::selection::clause_places::ClausePlaces;
 use crate::selection::table::DescriptionTable;
 use d_parser::Description;
-use firings::{Firing, MAX_TOGETHER, Probe, ProbePlaces, Text, Trace};
+use firings::{Firing, MAX_TOGETHER, Probe, ProbeIndices, Text, Trace};
 use keyed_hash::HashKey;
 use std::alloc::{AllocError, Global};
 use std::marker::Model;
 
 /// Which clauses run for each firing of a run over a trace, if that was found before any fires.
-/// Contracts see the places of the clauses, firing by firing: of BEGIN, of each row, and of END.
+/// Contracts see the indices of the clauses, firing by firing: of BEGIN, of each row, and of END.
 /// They see none if nothing was found.
 #[derive(Drop)]
 pub struct Selections<'a> {
@@ -57,26 +57,26 @@ impl<'a> Selections<'a> {
         Selections { found: Some(found) }
     }
 
-    /// The places of the clauses that run for the firing of a run at a place, if they were found:
-    /// BEGIN has place 0, the rows follow, and END is the last.
-    pub fn at(&self, place: u32) -> Option<&ClausePlaces>
-        ensures { lent result ≡ slice_get self.now place }
+    /// The indices of the clauses that run for the firing of a run at an index, if they were found:
+    /// BEGIN has index 0, the rows follow, and END is the last.
+    pub fn at(&self, index: u32) -> Option<&ClauseIndices>
+        ensures { lent result ≡ slice_get self.now index }
     {
         match &self.found {
-            Some(found) => found.at(place),
+            Some(found) => found.at(index),
             None => None,
         }
     }
 
-    /// The places of the clauses that run for the firings at these places, in their order.
-    pub(crate) fn lists(&self, places: &[u32]) -> [Option<&ClausePlaces>; MAX_TOGETHER]
-        requires { length places.now ≤ MAX_TOGETHER }
-        ensures { map lent (take (length places.now) result)
-            ≡ map (slice_get self.now) places.now }
+    /// The indices of the clauses that run for the firings at these indices, in their order.
+    pub(crate) fn lists(&self, indices: &[u32]) -> [Option<&ClauseIndices>; MAX_TOGETHER]
+        requires { length indices.now ≤ MAX_TOGETHER }
+        ensures { map lent (take (length indices.now) result)
+            ≡ map (slice_get self.now) indices.now }
     {
         let mut lists = [None; MAX_TOGETHER];
-        for (at, place) in places.iter().enumerate() {
-            lists[at] = self.at(*place);
+        for (at, index) in indices.iter().enumerate() {
+            lists[at] = self.at(*index);
         }
         lists
     }
@@ -86,9 +86,9 @@ impl<'a> Selections<'a> {
 #[derive(Drop)]
 struct Found<'a> {
     // The probe of each row.
-    firings: ProbePlaces<'a>,
+    firings: ProbeIndices<'a>,
     lists: ClauseLists,
-    // The place of each probe's list.
+    // The index of each probe's list.
     by_probe: Vec<usize>,
     begin: usize,
     end: usize,
@@ -101,7 +101,7 @@ impl<'a> Model for Found<'a> {
     ghost Value = { List (List ℕ) };
 
     ghost view = { λ s. selected_in s.lists s.begin
-        (map (λ p. get_or s.by_probe.items p 0) s.firings.places) s.end };
+        (map (λ p. get_or s.by_probe.items p 0) s.firings.indices) s.end };
 }
 
 impl<'a> Found<'a> {
@@ -113,10 +113,10 @@ impl<'a> Found<'a> {
         trace: &'a Trace,
     ) -> Result<Found<'a>, AllocError>
         ensures { IfOk result (λ s.
-            s ≡ map (λ f. places_for (probe_of f) 0 (map (λ d. d.now) descriptions.now))
+            s ≡ map (λ f. indices_for (probe_of f) 0 (map (λ d. d.now) descriptions.now))
             (with_ends trace.now trace.now)) }
     {
-        let firings = trace.firings().probe_places();
+        let firings = trace.firings().probe_indices();
         let table = DescriptionTable::new(alloc, hash_key, descriptions)?;
         let mut lists = ClauseLists::new(alloc, hash_key);
         let begin = list_for(alloc, &mut lists, &table, &trace.begin().into_probe())?;
@@ -131,16 +131,16 @@ impl<'a> Found<'a> {
         })
     }
 
-    // The places of the clauses that run for the firing at a place, if there is one.
-    fn at(&self, place: u32) -> Option<&ClausePlaces>
-        ensures { lent result ≡ slice_get self.now place }
+    // The indices of the clauses that run for the firing at an index, if there is one.
+    fn at(&self, index: u32) -> Option<&ClauseIndices>
+        ensures { lent result ≡ slice_get self.now index }
     {
-        if place == 0 {
+        if index == 0 {
             return Some(self.lists.at(self.begin));
         }
-        let row = place as usize - 1;
+        let row = index as usize - 1;
         if row < self.firings.len() {
-            let list = list_of(&self.by_probe, self.firings.place(row));
+            let list = list_of(&self.by_probe, self.firings.index_of(row));
             return Some(self.lists.at(list));
         }
         if row == self.firings.len() {
@@ -150,7 +150,7 @@ impl<'a> Found<'a> {
     }
 }
 
-// The place of a probe's list.
+// The index of a probe's list.
 fn list_of(by_probe: &[usize], probe: u32) -> usize
     ensures { result ≡ get_or by_probe.now probe 0 }
 {
@@ -176,22 +176,22 @@ pub(crate) fn select<'a, C: Clause>(
     Ok(Selections::of(found))
 }
 
-/// The places of those of these clauses that run for a firing.
+/// The indices of those of these clauses that run for a firing.
 pub(crate) fn clauses_for<C: Clause>(
     alloc: Global,
     hash_key: HashKey,
     clauses: &[C],
     firing: &Firing,
-) -> Result<ClausePlaces, AllocError>
-    ensures places { IfOk result (λ places. (m : ScriptMeant)
+) -> Result<ClauseIndices, AllocError>
+    ensures indices { IfOk result (λ indices. (m : ScriptMeant)
         → AllZip (λ c. C.means c (slots_of m)) clauses.now m.clauses
-        → places ≡ selected_for m firing.now) }
-    ensures few { IfOk result (λ places. length places ≤ sum_by C.probes clauses.now) }
+        → indices ≡ selected_for m firing.now) }
+    ensures few { IfOk result (λ indices. length indices ≤ sum_by C.probes clauses.now) }
 {
     let descriptions = descriptions(alloc, clauses)?;
     let table = DescriptionTable::new(alloc, hash_key, &descriptions)?;
-    let places = table.clauses(alloc, &probe_of(firing))?;
-    ClausePlaces::of(alloc, &places)
+    let indices = table.clauses(alloc, &probe_of(firing))?;
+    ClauseIndices::of(alloc, &indices)
 }
 
 // The probe that fired.
@@ -235,26 +235,26 @@ fn descriptions<'a, C: Clause>(
     Ok(all)
 }
 
-// The places of the lists for all probes.
+// The indices of the lists for all probes.
 fn lists_for(
     alloc: Global,
     lists: &mut ClauseLists,
     table: &DescriptionTable,
-    firings: &ProbePlaces,
+    firings: &ProbeIndices,
 ) -> Result<Vec<usize>, AllocError>
     ensures grows { OnOk result (Extends lists.old lists.new) }
-    ensures places { (ds : List (List Description)) → IsTableOf table.now ds
-        → IfOk result (λ places. ArePlaces lists.new places.items
-        (map (λ p. places_for p 0 ds) firings.now.probes)) }
+    ensures indices { (ds : List (List Description)) → IsTableOf table.now ds
+        → IfOk result (λ indices. AreIndices lists.new indices.items
+        (map (λ p. indices_for p 0 ds) firings.now.probes)) }
 {
-    let mut places = Vec::new(alloc);
+    let mut indices = Vec::new(alloc);
     for probe in 0..firings.probe_count() {
-        places.push(list_for(alloc, lists, table, &firings.probe(probe))?)?;
+        indices.push(list_for(alloc, lists, table, &firings.probe(probe))?)?;
     }
-    Ok(places)
+    Ok(indices)
 }
 
-// The place of the list for a probe.
+// The index of the list for a probe.
 fn list_for(
     alloc: Global,
     lists: &mut ClauseLists,
@@ -262,9 +262,9 @@ fn list_for(
     probe: &Probe,
 ) -> Result<usize, AllocError>
     ensures grows { OnOk result (Extends lists.old lists.new) }
-    ensures place { (ds : List (List Description)) → IsTableOf table.now ds
-        → IfOk result (λ p. slice_get lists.new p ≡ Some (places_for probe.now 0 ds)) }
+    ensures index { (ds : List (List Description)) → IsTableOf table.now ds
+        → IfOk result (λ p. slice_get lists.new p ≡ Some (indices_for probe.now 0 ds)) }
 {
     let clauses = table.clauses(alloc, probe)?;
-    lists.keep(ClausePlaces::of(alloc, &clauses)?)
+    lists.keep(ClauseIndices::of(alloc, &clauses)?)
 }

@@ -112,15 +112,15 @@ fn answers_in_two<R: AllocGlobal + Threads + Wait + Sync>(
     is_answer(rt.alloc(), &answer, &out, wanted)
 }
 
-// The first of these places at which a bundle, cut there, shows something else.
+// The first of these indices at which a bundle, cut there, shows something else.
 fn first_wrong_cut<R: AllocGlobal + Threads + Wait + Sync>(
     rt: &R,
     bundle: &[u8],
-    places: &[usize],
+    indices: &[usize],
     workers: u32,
     wanted: &str,
 ) -> Result<Option<usize>, AllocError> {
-    for at in places {
+    for at in indices {
         let is_wanted = answers_in_two(rt, bundle, *at, workers, wanted)?;
         if !is_wanted {
             return Ok(Some(*at));
@@ -129,7 +129,7 @@ fn first_wrong_cut<R: AllocGlobal + Threads + Wait + Sync>(
     Ok(None)
 }
 
-// The first place of all at which a bundle, cut there, shows something else.
+// The first index of all at which a bundle, cut there, shows something else.
 fn first_wrong_cut_of_all<R: AllocGlobal + Threads + Wait + Sync>(
     rt: &R,
     bundle: &[u8],
@@ -149,8 +149,8 @@ fn a_bundle_may_be_cut_anywhere(rt: HostRuntime) -> Result<(), Fail> {
     for (bundle, wanted) in BUNDLES {
         let cut = first_wrong_cut_of_all(&rt, bundle, wanted)?;
         assert_eq!(rt; cut, None, "{wanted}");
-        let places = [0, 20, 22, 24, bundle.len()];
-        let cut = first_wrong_cut(&rt, bundle, &places, 2, wanted)?;
+        let indices = [0, 20, 22, 24, bundle.len()];
+        let cut = first_wrong_cut(&rt, bundle, &indices, 2, wanted)?;
         assert_eq!(rt; cut, None, "{wanted}");
     }
     Ok(())
@@ -167,7 +167,7 @@ fn long_bundle(alloc: Global, bytes: usize, filler: u8) -> Result<Vec<u8>, Alloc
     Ok(bundle)
 }
 
-// The first place at which such a bundle, cut there, shows something else.
+// The first index at which such a bundle, cut there, shows something else.
 fn first_wrong_cut_of_long<R: AllocGlobal + Threads + Wait + Sync>(
     rt: &R,
     bytes: usize,

@@ -11,5 +11,5 @@ pub mod QueueSeats
 pub mod Sought
 pub mod Listed
 pub mod Wrongs
-pub mod Places
+pub mod Indices
 pub mod Unite

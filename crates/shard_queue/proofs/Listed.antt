@@ -82,21 +82,21 @@ noted_else lists last t u ne =
     ∙ ap (λ b. option_or (list_of lists u) (cond b (Some (0 + length lists)) None)) (list_any-append (int_eq u) last (t ∷ []) ∙ ap (λ b. has last u || (b || false)) ne ∙ or_false (has last u))
     ∙ sym (position_snoc (λ list. has list u) 0 lists last)
 
--- what is found at a thread's place
-pub number_at : (threads : List ℤ) (lists : List (List ℤ)) (last : List ℤ) (place : ℕ) (t : ℤ) (old : List (Option ℕ)) (number : Option ℕ)
-    → old ≡ map (list_of (lists ++ last ∷ [])) threads → slice_get threads place ≡ Some t → slice_get old place ≡ Some number → list_of (lists ++ last ∷ []) t ≡ number
-number_at threads lists last place t old number was at is =
+-- what is found at a thread's index
+pub number_at : (threads : List ℤ) (lists : List (List ℤ)) (last : List ℤ) (index : ℕ) (t : ℤ) (old : List (Option ℕ)) (number : Option ℕ)
+    → old ≡ map (list_of (lists ++ last ∷ [])) threads → slice_get threads index ≡ Some t → slice_get old index ≡ Some number → list_of (lists ++ last ∷ []) t ≡ number
+number_at threads lists last index t old number was at is =
     let f = list_of (lists ++ last ∷ []) in
-    ap (λ o. unwrap_or o (f t)) (sym (ap (option_map f) at) ∙ sym (slice_get-map f threads place) ∙ ap (λ l. slice_get l place) (sym was) ∙ is)
+    ap (λ o. unwrap_or o (f t)) (sym (ap (option_map f) at) ∙ sym (slice_get-map f threads index) ∙ ap (λ l. slice_get l index) (sym was) ∙ is)
 
--- a thread is noted at its place
-pub noted : (threads : List ℤ) (lists : List (List ℤ)) (last : List ℤ) (place : ℕ) (t : ℤ) (old new : List (Option ℕ)) → IsStrictlySortedBy int_cmp threads
-    → old ≡ map (list_of (lists ++ last ∷ [])) threads → slice_get threads place ≡ Some t → slice_get old place ≡ Some None → new ≡ set old place (Some (length lists))
+-- a thread is noted at its index
+pub noted : (threads : List ℤ) (lists : List (List ℤ)) (last : List ℤ) (index : ℕ) (t : ℤ) (old new : List (Option ℕ)) → IsStrictlySortedBy int_cmp threads
+    → old ≡ map (list_of (lists ++ last ∷ [])) threads → slice_get threads index ≡ Some t → slice_get old index ≡ Some None → new ≡ set old index (Some (length lists))
     → new ≡ map (list_of (lists ++ (last ++ t ∷ []) ∷ [])) threads
-noted threads lists last place t old new sorted was at open_yet is =
-    is ∙ ap (λ l. set l place (Some (length lists))) was
-    ∙ map_noted (list_of (lists ++ last ∷ [])) (list_of (lists ++ (last ++ t ∷ []) ∷ [])) threads place t (Some (length lists)) sorted at
-    (noted_here lists last t (number_at threads lists last place t old None was at open_yet)) (λ u ne. noted_else lists last t u ne)
+noted threads lists last index t old new sorted was at open_yet is =
+    is ∙ ap (λ l. set l index (Some (length lists))) was
+    ∙ map_noted (list_of (lists ++ last ∷ [])) (list_of (lists ++ (last ++ t ∷ []) ∷ [])) threads index t (Some (length lists)) sorted at
+    (noted_here lists last t (number_at threads lists last index t old None was at open_yet)) (λ u ne. noted_else lists last t u ne)
 
 -- who has a list has one of those there are
 pub list_of-below : (lists : List (List ℤ)) (t : ℤ) (n : ℕ) → list_of lists t ≡ Some n → n < length lists

@@ -1,4 +1,4 @@
--- Threads in ascending order, and what stands at their places.
+-- Threads in ascending order, and what stands at their indices.
 use Rattle.std.proofs.Common.{◌≡◌, ℕ, zero, suc, ◌+◌, ◌≤◌, Bool, true, false, cond, ◌||◌, List, []}
 use Rattle.std.proofs.Common.{◌∷◌, Some, None, Result, Ok, Err, MatchOption, map, length, set}
 use Rattle.std.proofs.Common.{get_or, unwrap_or, slice_get, refl, sym, ap, ◌∙◌, subst, arith}
@@ -79,14 +79,14 @@ searched ts t (Err i) sorted is within =
     list_any_none (int_eq t) ts (λ k d lt. sym (same_test (get_or ts k d) t)
     ∙ dite (dec_le i k) (λ (le : i ≤ k). ap is_eq (parts.1 k d le lt)) (λ no. ap is_eq (parts.0 k d (omega arith) (lt_of_not-le no))))
 
--- a thread at a place is among them
+-- a thread at an index is among them
 pub has_at : (ts : List ℤ) (i : ℕ) (t : ℤ) → slice_get ts i ≡ Some t → has ts t ≡ true
 has_at ts i t at = list_any_at (int_eq t) ts i t (slice_get_within ts i t at) (ap (int_eq t) (get_or_from_slice_get ts i t t at) ∙ itself t)
 
 Some-inside : {X : Type 0} (x y : X) → Some x ≡ Some y → x ≡ y
 Some-inside x y e = ap (λ o. unwrap_or o x) e
 
--- what stands beside the thread at a place
+-- what stands beside the thread at an index
 pub lookup_at : {X : Type 0} (ts : List ℤ) (xs : List X) (i : ℕ) (t : ℤ) → IsStrictlySortedBy int_cmp ts → slice_get ts i ≡ Some t → lookup (int_eq t) (zip ts xs) ≡ slice_get xs i
 lookup_at [] xs i t sorted at = absurd cc
 lookup_at (x ∷ ts) [] i t sorted at = refl

@@ -90,7 +90,7 @@ fine threads lists last t rest there none =
 -- what noting a thread refuses
 abbrev pub Refused : (threads : List ℤ) (found : List (Option ℕ)) → ℤ → GroupFault → Type 0
 Refused threads found t e = ((e ≡ Stranger t) × (has threads t ≡ false))
-    ⊎ ((e ≡ Doubled t) × ((place n : ℕ) × (slice_get threads place ≡ Some t) × (slice_get found place ≡ Some (Some n))))
+    ⊎ ((e ≡ Doubled t) × ((index n : ℕ) × (slice_get threads index ≡ Some t) × (slice_get found index ≡ Some (Some n))))
 
 pub refused : (threads : List ℤ) (lists : List (List ℤ)) (last : List ℤ) (t : ℤ) (rest : List ℤ) (found : List (Option ℕ)) (e : GroupFault)
     → found ≡ map (list_of (lists ++ last ∷ [])) threads → Refused threads found t e → first_wrong threads (all_of lists ++ last) (t ∷ rest) ≡ Some e
@@ -148,7 +148,7 @@ pub right_all : (threads : List ℤ) (lists : List (List ℤ)) (k : ℕ) → len
     → first_wrong threads [] (all_of lists) ≡ first_wrong threads (all_of (take k lists)) (all_of (drop k lists)) → first_wrong threads [] (all_of lists) ≡ None
 right_all threads lists k le so_far = so_far ∙ ap (λ (l : List (List ℤ)). first_wrong threads (all_of (take k lists)) (all_of l)) (drop_all k lists le)
 
--- the threads from a place on, where the first of them has a number, or none
+-- the threads from an index on, where the first of them has a number, or none
 pub unfound_next : (threads : List ℤ) (found : List (Option ℕ)) (k n : ℕ) → k < length threads → k < length found → get_or found k (Some n) ≡ Some n
     → first_unfound (drop k threads) (drop k found) ≡ first_unfound (drop (k + 1) threads) (drop (k + 1) found)
 unfound_next threads found k n lt lt' item =

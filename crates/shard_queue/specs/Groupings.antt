@@ -44,12 +44,12 @@ is_group g (Some h) = h == g
 abbrev pub of_group : Grouping → ℕ → List Firing → List Firing
 of_group grouping g firings = filter (λ f. is_group g (grouping.group f.thread)) firings
 
--- the places of the threads that pass, if the first has place i
-abbrev pub places_from : (ℤ → Bool) → ℕ → List ℤ → List ℕ
-places_from test i [] = []
-places_from test i (t ∷ ts) =
-    if test t then i ∷ places_from test (suc i) ts else places_from test (suc i) ts
+-- the indices of the threads that pass, if the first has index i
+abbrev pub indices_from : (ℤ → Bool) → ℕ → List ℤ → List ℕ
+indices_from test i [] = []
+indices_from test i (t ∷ ts) =
+    if test t then i ∷ indices_from test (suc i) ts else indices_from test (suc i) ts
 
--- the places of a group's firings in a run whose firings have these threads
-abbrev pub places_of : Grouping → ℕ → List ℤ → List ℕ
-places_of grouping g threads = places_from (λ t. is_group g (grouping.group t)) 0 threads
+-- the indices of a group's firings in a run whose firings have these threads
+abbrev pub indices_of : Grouping → ℕ → List ℤ → List ℕ
+indices_of grouping g threads = indices_from (λ t. is_group g (grouping.group t)) 0 threads

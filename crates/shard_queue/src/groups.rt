@@ -6,11 +6,11 @@ ghost use Rattle.shard_queue.specs.{Groupings.is_group};
 ghost use Rattle.shard_queue.specs.Vocabulary.{IsStrictlySortedBy, IsStrictlySortedBy-prop};
 ghost use Rattle.shard_queue.specs.Vocabulary.{int_cmp};
 
-use crate::threads::place_of;
+use crate::threads::index_of;
 use std::alloc::AllocError;
 
-/// Which thread is in which group, and for each group the places of its firings in the run: BEGIN
-/// has place 0, the rows of the trace follow, and END is the last.
+/// Which thread is in which group, and for each group the indices of its firings in the run: BEGIN
+/// has index 0, the rows of the trace follow, and END is the last.
 #[derive(Drop)]
 pub struct Groups {
     // the threads of the trace, and at the same index the group of each
@@ -18,16 +18,16 @@ pub struct Groups {
     pub(crate) numbers: Vec<u32>,
     // the group of thread 0
     pub(crate) own: u32,
-    pub(crate) places: Vec<Vec<u32>>,
+    pub(crate) indices: Vec<Vec<u32>>,
     ghost ascending: { IsStrictlySortedBy int_cmp threads.items } by { IsStrictlySortedBy-prop
         int_cmp threads.items },
     ghost numbered: { vec_len numbers ≡ vec_len threads },
     ghost small: { All (λ g. g < own) numbers.items },
-    ghost sized: { vec_len places ≡ own + 1 },
+    ghost sized: { vec_len indices ≡ own + 1 },
 }
 
 impl Groups {
-    ghost use Rattle.shard_queue.specs.Groups.{grouping, places};
+    ghost use Rattle.shard_queue.specs.Groups.{grouping, indices};
 
     /// How many groups there are, that of thread 0 among them.
     ///
@@ -37,7 +37,7 @@ impl Groups {
     pub fn len(&self) -> usize
         ensures { result ≡ (grouping self.now).count }
     {
-        self.places.len()
+        self.indices.len()
     }
 
     /// The group of a thread, `None` for a stranger.
@@ -55,33 +55,33 @@ impl Groups {
         if thread == 0 {
             return Some(self.own);
         }
-        let place = place_of(&self.threads, thread)?;
-        Some(self.numbers[place])
+        let index = index_of(&self.threads, thread)?;
+        Some(self.numbers[index])
     }
 
-    /// The places of a group's firings, ascending.
+    /// The indices of a group's firings, ascending.
     ///
     /// ```text
     /// // the threads 9, 3, 9 and 5, dealt into two groups
-    /// groups.places(0) // [1, 2, 3]
-    /// groups.places(2) // [0, 5], those of BEGIN and END
+    /// groups.indices(0) // [1, 2, 3]
+    /// groups.indices(2) // [0, 5], those of BEGIN and END
     /// ```
-    pub fn places(&self, group: u32) -> &[u32]
+    pub fn indices(&self, group: u32) -> &[u32]
         requires { group < (grouping self.now).count }
-        ensures { result.now ≡ places self.now group }
+        ensures { result.now ≡ indices self.now group }
     {
-        self.places[group as usize].as_slice()
+        self.indices[group as usize].as_slice()
     }
 
-    // Notes the place of a firing of a group.
-    pub(crate) fn add(&mut self, group: Option<u32>, place: u32) -> Result<(), AllocError>
+    // Notes the index of a firing of a group.
+    pub(crate) fn add(&mut self, group: Option<u32>, index: u32) -> Result<(), AllocError>
         requires { IfSome group (λ g. g < (grouping self.old).count) }
         ensures grouping { OnOk result (grouping self.new ≡ grouping self.old) }
-        ensures places { OnOk result ((g : ℕ) → places self.new g
-            ≡ (if is_group g group then places self.old g ++ place ∷ [] else places self.old g)) }
+        ensures indices { OnOk result ((g : ℕ) → indices self.new g
+            ≡ (if is_group g group then indices self.old g ++ index ∷ [] else indices self.old g)) }
     {
         if let Some(group) = group {
-            self.places[group as usize].push(place)?;
+            self.indices[group as usize].push(index)?;
         }
         Ok(())
     }

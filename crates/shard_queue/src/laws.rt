@@ -9,7 +9,7 @@ ghost use Rattle.shard_queue.specs.Vocabulary.{thread_of};
 ghost use Rattle.shard_queue.specs.Drawing.{Draws};
 ghost use Rattle.shard_queue.specs.Hands.{hand};
 ghost use Rattle.shard_queue.specs.Least.{IsLeastLowered, low};
-ghost use Rattle.shard_queue.specs.Groupings.{Grouping, of_group, places_of};
+ghost use Rattle.shard_queue.specs.Groupings.{Grouping, of_group, indices_of};
 ghost use Rattle.shard_queue.specs.Numbers.{IsAllBelow, SameItems, below};
 
 /// Lists of numbers have the same items exactly if one is the other in some order.
@@ -26,19 +26,19 @@ pub fn each_number_once()
         → count_by (λ y. y == x) xs ≡ 0 }
 {}
 
-/// If each thread has a group, the places of all groups together are those of the whole run,
+/// If each thread has a group, the indices of all groups together are those of the whole run,
 /// each once.
-pub fn each_place_in_one_group()
+pub fn each_index_in_one_group()
     ensures { (grouping : Grouping) (threads : List ℤ)
         → All (λ t. IsSomeAnd (grouping.group t) (λ g. g < grouping.count)) threads
         → IsAllBelow (length threads)
-        (flat_map (λ g. places_of grouping g threads) (below grouping.count)) }
+        (flat_map (λ g. indices_of grouping g threads) (below grouping.count)) }
 {}
 
-/// At a group's places are the firings of its threads, in their order.
-pub fn firings_at_the_places()
+/// At a group's indices are the firings of its threads, in their order.
+pub fn firings_at_the_indices()
     ensures { (grouping : Grouping) (g : ℕ) (firings : List Firing)
-        → map (slice_get firings) (places_of grouping g (map thread_of firings))
+        → map (slice_get firings) (indices_of grouping g (map thread_of firings))
         ≡ map Some (of_group grouping g firings) }
 {}
 

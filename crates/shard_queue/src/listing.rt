@@ -15,7 +15,7 @@ ghost use Rattle.shard_queue.specs.Vocabulary.{int_cmp};
 use crate::fault::GroupFault;
 use crate::groups::Groups;
 use crate::limits::MAX_GROUPS;
-use crate::threads::place_of;
+use crate::threads::index_of;
 use firings::Trace;
 use std::alloc::{AllocError, Global};
 
@@ -111,20 +111,20 @@ fn note(
 ) -> Result<(), GroupFault>
     requires ascending { IsStrictlySortedBy int_cmp threads.now }
     requires sized { length found.old ≡ length threads.now }
-    ensures noted { OnOk result ((place : ℕ) × (slice_get threads.now place ≡ Some thread)
-        × (slice_get found.old place ≡ Some None)
-        × (found.new ≡ set found.old place (Some list))) }
+    ensures noted { OnOk result ((index : ℕ) × (slice_get threads.now index ≡ Some thread)
+        × (slice_get found.old index ≡ Some None)
+        × (found.new ≡ set found.old index (Some list))) }
     ensures wrong { IfErr result (λ e. ((e ≡ Stranger thread) × (has threads.now thread ≡ false))
-        ⊎ ((e ≡ Doubled thread) × ((place n : ℕ) × (slice_get threads.now place ≡ Some thread)
-        × (slice_get found.old place ≡ Some (Some n))))) }
+        ⊎ ((e ≡ Doubled thread) × ((index n : ℕ) × (slice_get threads.now index ≡ Some thread)
+        × (slice_get found.old index ≡ Some (Some n))))) }
 {
-    let Some(place) = place_of(threads, thread) else {
+    let Some(index) = index_of(threads, thread) else {
         return Err(GroupFault::Stranger { thread });
     };
-    if found[place].is_some() {
+    if found[index].is_some() {
         return Err(GroupFault::Doubled { thread });
     }
-    found[place] = Some(list);
+    found[index] = Some(list);
     Ok(())
 }
 
@@ -140,9 +140,9 @@ fn every_number(
         (λ e. (e ≡ Memory) ⊎ (first_unfound threads.now found.now ≡ Some e)) }
 {
     let mut numbers = Vec::with_capacity(alloc, found.len())?;
-    for (place, number) in found.iter().enumerate() {
+    for (index, number) in found.iter().enumerate() {
         let Some(number) = *number else {
-            let thread = threads[place];
+            let thread = threads[index];
             return Err(GroupFault::Missing { thread });
         };
         numbers.push_reserved(number);

@@ -43,7 +43,7 @@ fn lists_of(alloc: Global, lists: &[&[i32]]) -> Result<Vec<Vec<i32>>, AllocError
 }
 
 // Threads that fired, into how many groups they are dealt, a thread, its group, and that group's
-// places.
+// indices.
 const DEALT: [(&[i32], u32, i32, Option<u32>, &[u32]); 12] = [
     (&[9, 3, 9, 5], 2, 3, Some(0), &[1, 2, 3]),
     (&[9, 3, 9, 5], 2, 5, Some(1), &[4]),
@@ -68,20 +68,20 @@ fn deal(alloc: Global, fired: &[i32], groups: u32) -> Result<Groups, TraceFault>
     Ok(groups)
 }
 
-// The group of a thread, if it has one, and the places of that group.
-fn group_and_places(groups: &Groups, thread: i32) -> (Option<u32>, &[u32]) {
+// The group of a thread, if it has one, and the indices of that group.
+fn group_and_indices(groups: &Groups, thread: i32) -> (Option<u32>, &[u32]) {
     match groups.group_of(thread) {
-        Some(group) => (Some(group), groups.places(group)),
+        Some(group) => (Some(group), groups.indices(group)),
         None => (None, &[]),
     }
 }
 
 #[test]
 fn threads_are_dealt_in_turn(rt: HostRuntime) -> Result<(), Fail> {
-    for (fired, count, thread, group, places) in DEALT {
+    for (fired, count, thread, group, indices) in DEALT {
         let groups = deal(rt.alloc(), fired, count)?;
         let is_dealt = groups.len() == count as usize + 1
-            && group_and_places(&groups, thread) == (group, places);
+            && group_and_indices(&groups, thread) == (group, indices);
         assert!(rt; is_dealt, "thread {thread} of {count} groups");
     }
     Ok(())
@@ -183,12 +183,12 @@ fn threads_are_in_the_group_of_their_list(rt: HostRuntime) -> Result<(), Fail> {
         (3, (None, &[][..])),
     ] {
         assert!(rt;
-            group_and_places(&groups, thread) == found,
+            group_and_indices(&groups, thread) == found,
             "thread {thread}"
         );
     }
     for group in [0, 2] {
-        assert!(rt; groups.len() > 2 && groups.places(group).is_empty());
+        assert!(rt; groups.len() > 2 && groups.indices(group).is_empty());
     }
     Ok(())
 }

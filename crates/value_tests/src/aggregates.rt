@@ -65,10 +65,10 @@ fn has_counts(
 fn add(table: &mut AggTable, key: &mut Key, agg: usize, name: &[u8]) -> Result<(), AllocError>
     requires agg { agg < length (functions_of table.old) }
     requires room { count_held table.old < 2 ^ 52 }
-    requires place { 0 < length key.old }
+    requires index { 0 < length key.old }
     ensures functions { functions_of table.new ≡ functions_of table.old }
     ensures held { count_held table.new ≤ count_held table.old + 1 }
-    ensures place { length key.new ≡ length key.old }
+    ensures index { length key.new ≡ length key.old }
 {
     key.set_name(0, name)?;
     table.add(agg, key, 0)
@@ -78,7 +78,7 @@ fn add(table: &mut AggTable, key: &mut Key, agg: usize, name: &[u8]) -> Result<(
 fn add_rows(table: &mut AggTable, key: &mut Key) -> Result<(), AllocError>
     requires functions { length (functions_of table.old) ≡ 3 }
     requires room { count_held table.old ≡ 0 }
-    requires place { 0 < length key.old }
+    requires index { 0 < length key.old }
     ensures { functions_of table.new ≡ functions_of table.old }
 {
     add(table, key, 0, b"sh")?;

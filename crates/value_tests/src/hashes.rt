@@ -44,7 +44,7 @@ fn sources_give_keys(rt: HostRuntime) {
     assert!(rt; given != drawn);
 }
 
-// Bytes that are divided into two writes at different places, and other bytes in their place.
+// Bytes that are divided into two writes at different indices, and other bytes in their place.
 const DIFFERENT: [&[&[u8]]; 7] = [
     &[b"", b"sixteen bytes or"],
     &[b"sixteen ", b"bytes or"],

@@ -62,15 +62,15 @@ abbrev pub new_aggregation : List ℕ → Typeds → Aggs → AggFn → Result (
 new_aggregation name keys aggs f =
     Ok (length aggs, aggs ++ record { name = name; keys = kinds_of_typed keys; function = f } ∷ [])
 
--- the place of an aggregation, and all of them with it: the first statement fixes its keys and its
+-- the index of an aggregation, and all of them with it: the first statement fixes its keys and its
 -- function
-abbrev pub place_for : ℕ → List ℕ → Typeds → Option AggFn → Aggs → Option (ℕ × Agg)
+abbrev pub index_for : ℕ → List ℕ → Typeds → Option AggFn → Aggs → Option (ℕ × Agg)
     → Result (ℕ × Aggs) Fault
-place_for line name keys f aggs None =
+index_for line name keys f aggs None =
     if nat_le (count keys) MAX_KEYS
     then (unless LquantizeBounds line f >>= new_aggregation name keys aggs)
     else refuse Keys line
-place_for line name keys f aggs (Some p) =
+index_for line name keys f aggs (Some p) =
     if fit p.1.keys keys
     then (if is_again f p.1.function then Ok (p.0, aggs) else refuse AggregationRedefined line)
     else refuse Keys line
@@ -82,6 +82,6 @@ aggregate line name keys f args rows aggs =
     wholes end rows keys >>= λ k. unless Undeclared line (aggregating_named f) >>= λ g.
     wholes end k.1 args >>= λ x.
     if arguments_fit g x.0
-    then (place_for line name k.0 (function g args) aggs (find_from 0 name aggs) >>= λ a.
+    then (index_for line name k.0 (function g args) aggs (find_from 0 name aggs) >>= λ a.
     Ok (Aggregate a.0 k.0 (first x.0), (x.1, a.1)))
     else refuse Mismatch line

@@ -14,7 +14,7 @@ pub record Place : Type 0 where
   pub texts : ℕ
   pub numbers : ℕ
 
--- a piece for each place
+-- a piece for each index
 abbrev pub Maker : Type 0
 Maker = Place → Piece
 

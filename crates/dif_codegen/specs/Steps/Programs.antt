@@ -31,8 +31,8 @@ compiled_action (Evaluate e) = Evaluate (compiled_object e)
 compiled_action (Trace e) = Trace (compiled_object e)
 compiled_action (Print format arguments) = Print format (compiled_objects arguments)
 compiled_action (Exit e) = Exit (compiled_object e)
-compiled_action (Aggregate place keys argument) =
-    Aggregate place (compiled_objects keys) (optional_object argument)
+compiled_action (Aggregate index keys argument) =
+    Aggregate index (compiled_objects keys) (optional_object argument)
 
 abbrev pub compiled_clause : ClauseMeant → ClauseCode
 compiled_clause c = record {

@@ -9,7 +9,7 @@ use Rattle.dif_machine.specs.Held.{frame_of}
 use Rattle.dif_machine.specs.Semantics.{Stuck, act}
 use Rattle.dif_machine.specs.Steps.Semantics.{Stepped}
 
--- there is a next place
+-- there is a next index
 abbrev pub HasNext : FrameInMemory → Type 0
 HasNext frame = frame.pc < 2 ^ 64 - 1
 

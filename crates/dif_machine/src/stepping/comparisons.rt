@@ -58,7 +58,7 @@ pub(super) fn scmp(
     Ok(None)
 }
 
-/// `ba to`: goes to a place.
+/// `ba to`: goes to an index.
 pub(super) fn ba(frame: &mut Frame, to: usize) -> Result<Option<Reg>, MachineFault>
     ensures { ExecutesAnywhere (Ba to) frame.old result frame.new }
 {
@@ -66,7 +66,7 @@ pub(super) fn ba(frame: &mut Frame, to: usize) -> Result<Option<Reg>, MachineFau
     Ok(None)
 }
 
-/// `bCOND to`: goes to a place where the last comparison is so.
+/// `bCOND to`: goes to an index where the last comparison is so.
 pub(super) fn branch(
     frame: &mut Frame,
     condition: Condition,

@@ -9,7 +9,7 @@ use Rattle.firings.specs.Stored.{first_of, moved_given}
 abbrev pub owner_of : Firing → Owner
 owner_of f = record { thread = f.thread; pid = f.pid; execname = f.execname }
 
--- a row with the places of its owner and its probe among others, and with arguments that begin so
+-- a row with the indices of its owner and its probe among others, and with arguments that begin so
 -- much later
 abbrev pub moved_row : List ℕ → List ℕ → ℕ → Row → Row
 moved_row owners probes shift r = record r {
@@ -18,7 +18,7 @@ moved_row owners probes shift r = record r {
   given = moved_given shift r.given;
 }
 
--- there is a place for the row's owner, for its probe, and for its first argument
+-- there is an index for the row's owner, for its probe, and for its first argument
 pub record IsMovable (owners probes : List ℕ) (shift : ℕ) (r : Row) : Type 0 where
   pub owner : r.owner < length owners
   pub probe : r.probe < length probes

@@ -78,14 +78,14 @@ HasKind key kinds x =
     (kind : Option (Bor Description)) × (slice_get kinds x.1.kind ≡ Some kind)
     × IsOfKind key kind x.0 x.1.description.now
 
--- the descriptions, each with the place of its clause
+-- the descriptions, each with the index of its clause
 abbrev pub given_of : List (ℕ × Described) → List (ℕ × Description)
 given_of items = map (λ x. (x.1.clause, x.1.description.now)) items
 
--- the descriptions of clauses, from a place on
+-- the descriptions of clauses, from an index on
 abbrev pub given_from : ℕ → List (List Description) → List (ℕ × Description)
-given_from place [] = []
-given_from place (ds ∷ rest) = map (λ d. (place, d)) ds ++ given_from (place + 1) rest
+given_from index [] = []
+given_from index (ds ∷ rest) = map (λ d. (index, d)) ds ++ given_from (index + 1) rest
 
 -- a table of these, sorted by hash, each of its kind
 pub record IsTable (t : DescriptionTable) (given : List (ℕ × Description)) : Type 0 where

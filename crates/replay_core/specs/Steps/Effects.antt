@@ -44,9 +44,9 @@ IsPerformed meaning r old new before after =
 
 -- ---- contributions
 
--- there is an aggregation at this place, and room for a contribution
-pub record HasRoomAt (place : ℕ) (p : Piece) : Type 0 where
-  pub known : place < length (functions_of p.table)
+-- there is an aggregation at this index, and room for a contribution
+pub record HasRoomAt (index : ℕ) (p : Piece) : Type 0 where
+  pub known : index < length (functions_of p.table)
   pub room : count_held p.table < 2 ^ 52
 
 -- a piece has at most one contribution more, of the same aggregations and the same firings

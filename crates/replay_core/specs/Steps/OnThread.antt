@@ -5,9 +5,9 @@ use Rattle.replay_core.specs.declared.{lanes.piece.Piece.Piece}
 use Rattle.replay_core.specs.{Lanes.Notes, Meaning.Threads, Meaning.at_start, Seen.piece_seen}
 use Rattle.replay_core.specs.Steps.AllMade.{all_made}
 
--- what the clauses at these places make of what the firing's thread has
+-- what the clauses at these indices make of what the firing's thread has
 abbrev pub made_on : Firing → List ClauseMeant → List ℕ → Threads → Made
-made_on f cs places threads = all_made f cs places (at_start (threads f.thread))
+made_on f cs indices threads = all_made f cs indices (at_start (threads f.thread))
 
 -- what the clauses make is noted, the thread has the new variables, and each other thread those
 -- that it had

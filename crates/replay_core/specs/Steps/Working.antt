@@ -2,9 +2,9 @@
 use Rattle.std.specs.Prelude.{ℕ, List, take, drop}
 use Rattle.replay_core.specs.Vocabulary.{AreOf, Firing, Groups, ScriptMeant, flat_map, run_threads}
 
--- the firings at these places
+-- the firings at these indices
 abbrev pub firings_at : List Firing → List ℕ → List Firing
-firings_at fs places = flat_map (λ place. take 1 (drop place fs)) places
+firings_at fs indices = flat_map (λ index. take 1 (drop index fs)) indices
 
 -- the script means something, and the groups are those of this trace
 pub record IsReady (runs : ScriptMeant → Type 0) (groups : Groups) (trace : List Firing)

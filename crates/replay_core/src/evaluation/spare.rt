@@ -39,7 +39,7 @@ impl Spare {
             return Ok(Key::new(*self.keys.allocator()));
         }
         match self.keys.iter().position(|key| key.parts().len() == parts) {
-            Some(place) => Ok(self.keys.swap_remove(place)),
+            Some(index) => Ok(self.keys.swap_remove(index)),
             None => key_of_zeros(*self.keys.allocator(), parts),
         }
     }

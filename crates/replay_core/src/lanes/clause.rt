@@ -6,7 +6,7 @@ ghost use Rattle.replay_core.specs.Vocabulary.{HasTypedBuiltIns};
 ghost use Rattle.replay_core.specs.Vocabulary.{Slots, action_code, count_held, functions_of};
 ghost use Rattle.replay_core.specs.Vocabulary.{meant_of, run_of, statement_count};
 ghost use Rattle.replay_core.specs.Effects.{HasTaken, IsNotedRun};
-ghost use Rattle.replay_core.specs.Bounds.{places_among, places_in};
+ghost use Rattle.replay_core.specs.Bounds.{indices_among, indices_in};
 ghost use Rattle.replay_core.specs.Evaluation.{Stays, variables_in};
 
 use crate::lanes::piece::Piece;
@@ -25,8 +25,8 @@ pub trait Clause {
     /// How many contributions a run makes at most.
     ghost most: { Self → ℕ };
 
-    /// The places of the aggregations that it names are below this.
-    ghost places: { Self → ℕ };
+    /// The indices of the aggregations that it names are below this.
+    ghost indices: { Self → ℕ };
 
     /// How many descriptions it has.
     ghost probes: { Self → ℕ };
@@ -39,9 +39,9 @@ pub trait Clause {
 
     /// Runs it for a firing: notes in the piece what its statements do, and returns whether it
     /// exits. At a division by 0 the run ends, and a line that names the firing and the clause's
-    /// place, from 1, takes the place of its texts.
-    fn run(&self, place: u64, state: &mut State<'_>, piece: &mut Piece) -> Result<bool, AllocError>
-        requires places { places self.now ≤ length (functions_of piece.old.table) }
+    /// index, from 1, takes the place of its texts.
+    fn run(&self, index: u64, state: &mut State<'_>, piece: &mut Piece) -> Result<bool, AllocError>
+        requires indices { indices self.now ≤ length (functions_of piece.old.table) }
         requires room { count_held piece.old.table + most self.now ≤ 2 ^ 52 }
         requires taken { HasTaken state.old piece.old }
         ensures functions { functions_of piece.new.table ≡ functions_of piece.old.table }
@@ -51,7 +51,7 @@ pub trait Clause {
         ensures run { IfOk result (λ exits.
             (slots : Slots) (c : ClauseMeant) → means self.now slots c
             → HasTypedBuiltIns state.old.firing.now → AreTyped slots (variables_in state.old)
-            → IsNotedRun (λ f. run_of f place c) state.old state.new piece.old piece.new exits) };
+            → IsNotedRun (λ f. run_of f index c) state.old state.new piece.old piece.new exits) };
 }
 
 // The tree of a clause, walked.
@@ -60,7 +60,7 @@ impl Clause for TypedClause {
 
     ghost most = { λ c. statement_count (meant_of c) };
 
-    ghost places = { λ c. places_in (meant_of c) };
+    ghost indices = { λ c. indices_in (meant_of c) };
 
     ghost probes = { λ c. length c.descriptions.items };
 
@@ -70,11 +70,11 @@ impl Clause for TypedClause {
 
     fn run(
         &self,
-        place: u64,
+        index: u64,
         state: &mut State<'_>,
         piece: &mut Piece,
     ) -> Result<bool, AllocError> {
-        run_clause(&self.predicate, &self.statements, place, state, piece)
+        run_clause(&self.predicate, &self.statements, index, state, piece)
     }
 }
 
@@ -84,7 +84,7 @@ impl Clause for CompiledClause {
 
     ghost most = { λ c. length c.actions.items };
 
-    ghost places = { λ c. places_among (map action_code c.actions.items) };
+    ghost indices = { λ c. indices_among (map action_code c.actions.items) };
 
     ghost probes = { λ c. length c.descriptions.items };
 
@@ -94,10 +94,10 @@ impl Clause for CompiledClause {
 
     fn run(
         &self,
-        place: u64,
+        index: u64,
         state: &mut State<'_>,
         piece: &mut Piece,
     ) -> Result<bool, AllocError> {
-        run_clause(&self.predicate, &self.actions, place, state, piece)
+        run_clause(&self.predicate, &self.actions, index, state, piece)
     }
 }

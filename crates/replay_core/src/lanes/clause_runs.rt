@@ -12,70 +12,70 @@ ghost use Rattle.replay_core.specs.Evaluation.{Stays, variables_in};
 use crate::lanes::clause::Clause;
 use crate::lanes::piece::Piece;
 use crate::lanes::state::State;
-use crate::selection::clause_places::{ClausePlaces, Repeat};
+use crate::selection::clause_indices::{ClauseIndices, Repeat};
 use d_lexer::MAX_BYTES;
 use std::alloc::AllocError;
 use std::marker::Model;
 
-// The places whose clauses are still to run. Contracts see each as often as its clause will.
+// The indices whose clauses are still to run. Contracts see each as often as its clause will.
 #[derive(Drop)]
-struct PlacesLeft<'a> {
+struct IndicesLeft<'a> {
     first: Repeat,
     behind: &'a [Repeat],
 }
 
-impl<'a> Model for PlacesLeft<'a> {
+impl<'a> Model for IndicesLeft<'a> {
     ghost use Rattle.std.specs.Prelude.{◌<◌, ◌∷◌, ℕ, List, All};
-    ghost use Rattle.replay_core.specs.Places.{places_in_turn};
+    ghost use Rattle.replay_core.specs.Indices.{indices_in_turn};
 
     ghost Value = { List ℕ };
 
-    ghost view = { λ l. places_in_turn (l.first ∷ l.behind.now) };
+    ghost view = { λ l. indices_in_turn (l.first ∷ l.behind.now) };
 
     ghost invariant = { λ l. All (λ repeat. 0 < repeat.times) l.behind.now };
 }
 
-impl<'a> PlacesLeft<'a> {
+impl<'a> IndicesLeft<'a> {
     // All of them.
-    fn all(places: &'a ClausePlaces) -> PlacesLeft<'a>
-        ensures { result ≡ places.now }
+    fn all(indices: &'a ClauseIndices) -> IndicesLeft<'a>
+        ensures { result ≡ indices.now }
     {
-        PlacesLeft {
-            first: Repeat { place: 0, times: 0 },
-            behind: &places.repeats,
+        IndicesLeft {
+            first: Repeat { index: 0, times: 0 },
+            behind: &indices.repeats,
         }
     }
 
     // Takes the first.
     #[inline(always)]
     fn next(&mut self) -> Option<usize>
-        ensures { MatchOption result (self.old ≡ []) (λ place. self.old ≡ place ∷ self.new) }
+        ensures { MatchOption result (self.old ≡ []) (λ index. self.old ≡ index ∷ self.new) }
     {
         if self.first.times > 0 {
             self.first.times -= 1;
-            return Some(self.first.place);
+            return Some(self.first.index);
         }
         let (first, behind) = self.behind.split_first()?;
         self.first = Repeat {
-            place: first.place,
+            index: first.index,
             times: first.times - 1,
         };
         self.behind = behind;
-        Some(first.place)
+        Some(first.index)
     }
 }
 
-/// Runs the clauses at these places for a firing, and returns whether one exited.
+/// Runs the clauses at these indices for a firing, and returns whether one exited.
 pub(crate) fn run_clauses<C: Clause>(
     clauses: &[C],
-    places: &ClausePlaces,
+    indices: &ClauseIndices,
     state: &mut State<'_>,
     piece: &mut Piece,
 ) -> Result<bool, AllocError>
-    requires there { All (λ place. place < length clauses.now) places.now }
-    requires named { All (λ c. C.places c ≤ length (functions_of piece.old.table)) clauses.now }
+    requires there { All (λ index. index < length clauses.now) indices.now }
+    requires named { All (λ c. C.indices c ≤ length (functions_of piece.old.table)) clauses.now }
     requires few { All (λ c. C.most c ≤ MAX_BYTES) clauses.now }
-    requires room { count_held piece.old.table + MAX_BYTES * length places.now ≤ 2 ^ 52 }
+    requires room { count_held piece.old.table + MAX_BYTES * length indices.now ≤ 2 ^ 52 }
     requires taken { HasTaken state.old piece.old }
     ensures functions { functions_of piece.new.table ≡ functions_of piece.old.table }
     ensures taken { piece.new.taken.items ≡ piece.old.taken.items }
@@ -83,23 +83,23 @@ pub(crate) fn run_clauses<C: Clause>(
     ensures notes { OnOk result ((slots : Slots) (cs : List ClauseMeant)
         → AllMean C.means slots clauses.now cs → HasTypedBuiltIns state.old.firing.now
         → AreTyped slots (variables_in state.old) →
-        let made = all_made state.old.firing.now cs places.now (variables_in state.old) in
+        let made = all_made state.old.firing.now cs indices.now (variables_in state.old) in
         Notes state.old.firing.now.number made (piece_seen piece.old) (piece_seen piece.new)
         × (variables_in state.new ≡ made.variables)) }
     ensures exits { IfOk result (λ exits. (slots : Slots) (cs : List ClauseMeant)
         → AllMean C.means slots clauses.now cs → HasTypedBuiltIns state.old.firing.now
         → AreTyped slots (variables_in state.old) →
-        let made = all_made state.old.firing.now cs places.now (variables_in state.old) in
+        let made = all_made state.old.firing.now cs indices.now (variables_in state.old) in
         exits ≡ is_some made.exit) }
     ensures held { OnOk result (count_held piece.new.table
-        ≤ count_held piece.old.table + MAX_BYTES * length places.now) }
+        ≤ count_held piece.old.table + MAX_BYTES * length indices.now) }
 {
     let count = clauses.len();
     let mut exits = false;
-    let mut left = PlacesLeft::all(places);
-    while let Some(place) = left.next() {
-        prove!(place < count);
-        let exited = clauses[place].run(place as u64 + 1, state, piece)?;
+    let mut left = IndicesLeft::all(indices);
+    while let Some(index) = left.next() {
+        prove!(index < count);
+        let exited = clauses[index].run(index as u64 + 1, state, piece)?;
         exits |= exited;
     }
     Ok(exits)

@@ -4,7 +4,7 @@ ghost use Rattle.std.specs.Prelude.{◌≡◌, ◌<◌, ◌≤◌, ◌↔◌, Bo
 ghost use Rattle.std.specs.Prelude.{IsTrue, OnOk, is_some, length};
 
 use crate::lanes::piece::Piece;
-use crate::selection::clause_places::ClausePlaces;
+use crate::selection::clause_indices::ClauseIndices;
 use firings::Firing;
 use std::alloc::AllocError;
 
@@ -41,23 +41,27 @@ pub trait Engine {
             × ((seen self.new).piece.taken ≡ (seen self.old).piece.taken) }
         ensures err { IsTrue (is_spent self.new) ↔ IsErr result };
 
-    /// Runs the clauses at these places, which were selected for a firing, and returns whether it
+    /// Runs the clauses at these indices, which were selected for a firing, and returns whether it
     /// exits. Once memory was refused, each later call is refused too.
-    fn fire_selected(&mut self, firing: &Firing, places: &ClausePlaces) -> Result<bool, AllocError>
+    fn fire_selected(
+        &mut self,
+        firing: &Firing,
+        indices: &ClauseIndices,
+    ) -> Result<bool, AllocError>
         requires ranges { HasRanges firing.now }
         requires selected { (m : ScriptMeant) × runs self.old m
-            × (places.now ≡ selected_for m firing.now) }
-        requires places { length places.now ≤ MAX_BYTES }
+            × (indices.now ≡ selected_for m firing.now) }
+        requires indices { length indices.now ≤ MAX_BYTES }
         requires few { length (seen self.old).piece.taken < most_firings }
         ensures step { (m : ScriptMeant) → runs self.old m
-            → places.now ≡ selected_for m firing.now
+            → indices.now ≡ selected_for m firing.now
             → OnOk result (Fires m firing.now (seen self.old) (seen self.new)) }
         ensures exits { (m : ScriptMeant) → runs self.old m
-            → places.now ≡ selected_for m firing.now
+            → indices.now ≡ selected_for m firing.now
             → IfOk result (λ exits. exits
             ≡ is_some (exit_of (history m (firing.now ∷ []) (seen self.old).threads))) }
         ensures script { (m : ScriptMeant) → runs self.old m
-            → places.now ≡ selected_for m firing.now → runs self.new m }
+            → indices.now ≡ selected_for m firing.now → runs self.new m }
         ensures spent { IsTrue (is_spent self.old) → IsErr result
             × ((seen self.new).piece.taken ≡ (seen self.old).piece.taken) }
         ensures err { IsTrue (is_spent self.new) ↔ IsErr result }

@@ -16,7 +16,7 @@ use crate::lanes::engine::Engine;
 use crate::lanes::piece::Piece;
 use crate::lanes::tables::Tables;
 use crate::lanes::threads::{Due, ThreadCache, run_on_thread};
-use crate::selection::clause_places::ClausePlaces;
+use crate::selection::clause_indices::ClauseIndices;
 use crate::selection::clauses_for;
 use aggregations::AggFn;
 use firings::Firing;
@@ -34,7 +34,7 @@ pub struct Lane<'a, C: Clause> {
     piece: Piece,
     // Memory was refused to a firing.
     spent: bool,
-    ghost named: { All (λ c. C.places c ≤ length (functions_of piece.table)) clauses.now },
+    ghost named: { All (λ c. C.indices c ≤ length (functions_of piece.table)) clauses.now },
     ghost few: { All (λ c. C.most c ≤ MAX_BYTES) clauses.now },
     ghost probes: { sum_by C.probes clauses.now ≤ MAX_BYTES },
     ghost room: { spent ≡ false → IsRoomy piece },
@@ -53,7 +53,7 @@ impl<'a, C: Clause> Lane<'a, C> {
         clauses: &'a [C],
         functions: Vec<AggFn>,
     ) -> Result<Lane<'a, C>, AllocError>
-        requires named { All (λ c. C.places c ≤ length functions.items) clauses.now }
+        requires named { All (λ c. C.indices c ≤ length functions.items) clauses.now }
         requires few { All (λ c. C.most c ≤ MAX_BYTES) clauses.now }
         requires probes { sum_by C.probes clauses.now ≤ MAX_BYTES }
         ensures script { IfOk result (λ l. (m : ScriptMeant)
@@ -77,13 +77,13 @@ impl<'a, C: Clause> Lane<'a, C> {
         })
     }
 
-    // Takes the firing's number, and runs the clauses at these places for it.
-    fn run(&mut self, firing: &Firing, places: &ClausePlaces) -> Result<bool, AllocError>
+    // Takes the firing's number, and runs the clauses at these indices for it.
+    fn run(&mut self, firing: &Firing, indices: &ClauseIndices) -> Result<bool, AllocError>
         requires ranges { HasRanges firing.now }
         requires selected { (m : ScriptMeant)
             × RunsAs C.means self.old.clauses.now (functions_of self.old.piece.table) m
-            × (places.now ≡ selected_for m firing.now) }
-        requires places { length places.now ≤ MAX_BYTES }
+            × (indices.now ≡ selected_for m firing.now) }
+        requires indices { length indices.now ≤ MAX_BYTES }
         requires few { length self.old.piece.taken.items < most_firings }
         requires room { IsRoomy self.old.piece }
         requires spent { self.old.spent ≡ true }
@@ -94,19 +94,19 @@ impl<'a, C: Clause> Lane<'a, C> {
         ensures room { OnOk result (IsRoomy self.new.piece) }
         ensures step { OnOk result ((m : ScriptMeant)
             → RunsAs C.means self.old.clauses.now (functions_of self.old.piece.table) m
-            → places.now ≡ selected_for m firing.now
+            → indices.now ≡ selected_for m firing.now
             → AreTypedThreads (slots_of m) (threads_in self.old.threads.entries)
             → Fires m firing.now
             (lane_seen self.old.threads.entries self.old.piece)
             (lane_seen self.new.threads.entries self.new.piece)) }
         ensures typed { OnOk result ((m : ScriptMeant)
             → RunsAs C.means self.old.clauses.now (functions_of self.old.piece.table) m
-            → places.now ≡ selected_for m firing.now
+            → indices.now ≡ selected_for m firing.now
             → AreTypedThreads (slots_of m) (threads_in self.old.threads.entries)
             → AreTypedThreads (slots_of m) (threads_in self.new.threads.entries)) }
         ensures exits { IfOk result (λ exits. (m : ScriptMeant)
             → RunsAs C.means self.old.clauses.now (functions_of self.old.piece.table) m
-            → places.now ≡ selected_for m firing.now
+            → indices.now ≡ selected_for m firing.now
             → AreTypedThreads (slots_of m) (threads_in self.old.threads.entries)
             → exits ≡ is_some
             (exit_of (history m (firing.now ∷ []) (threads_in self.old.threads.entries)))) }
@@ -114,7 +114,7 @@ impl<'a, C: Clause> Lane<'a, C> {
         self.piece.taken.push(firing.number)?;
         let due = Due {
             clauses: self.clauses,
-            places,
+            indices,
             firing,
         };
         run_on_thread(
@@ -139,23 +139,23 @@ impl<'a, C: Clause> Engine for Lane<'a, C> {
     fn fire(&mut self, firing: &Firing) -> Result<bool, AllocError> {
         let alloc = *self.threads.allocator();
         let hash_key = *self.threads.hasher();
-        let Ok(places) = clauses_for(alloc, hash_key, self.clauses, firing) else {
+        let Ok(indices) = clauses_for(alloc, hash_key, self.clauses, firing) else {
             self.spent = true;
             return Err(AllocError);
         };
-        self.fire_selected(firing, &places)
+        self.fire_selected(firing, &indices)
     }
 
     fn fire_selected(
         &mut self,
         firing: &Firing,
-        places: &ClausePlaces,
+        indices: &ClauseIndices,
     ) -> Result<bool, AllocError> {
         if self.spent {
             return Err(AllocError);
         }
         self.spent = true;
-        let exits = self.run(firing, places)?;
+        let exits = self.run(firing, indices)?;
         self.spent = false;
         Ok(exits)
     }

@@ -83,39 +83,39 @@ impl Piece {
     /// Notes what an aggregation is given under a key.
     pub(crate) fn note_contribution(
         &mut self,
-        place: usize,
+        index: usize,
         key: &Key,
         argument: i64,
     ) -> Result<(), AllocError>
-        requires place { place < length (functions_of self.old.table) }
+        requires index { index < length (functions_of self.old.table) }
         requires room { count_held self.old.table < 2 ^ 52 }
         ensures functions { functions_of self.new.table ≡ functions_of self.old.table }
         ensures taken { self.new.taken.items ≡ self.old.taken.items }
         ensures held { count_held self.new.table ≤ count_held self.old.table + 1 }
         ensures notes { OnOk result ((number : ℕ)
-            → NotesEffect number (Effect.Adds place key.now argument) (piece_seen self.old)
+            → NotesEffect number (Effect.Adds index key.now argument) (piece_seen self.old)
             (piece_seen self.new)) }
     {
-        self.table.add(place, key, argument)
+        self.table.add(index, key, argument)
     }
 
     /// Notes what an aggregation is given under the key that these values make.
     pub(crate) fn note_lent_contribution(
         &mut self,
-        place: usize,
+        index: usize,
         values: &[ValueRef<'_>],
         argument: i64,
     ) -> Result<(), AllocError>
-        requires place { place < length (functions_of self.old.table) }
+        requires index { index < length (functions_of self.old.table) }
         requires room { count_held self.old.table < 2 ^ 52 }
         ensures functions { functions_of self.new.table ≡ functions_of self.old.table }
         ensures taken { self.new.taken.items ≡ self.old.taken.items }
         ensures held { count_held self.new.table ≤ count_held self.old.table + 1 }
         ensures notes { OnOk result ((number : ℕ)
-            → NotesEffect number (Effect.Adds place (key_of values.now) argument)
+            → NotesEffect number (Effect.Adds index (key_of values.now) argument)
             (piece_seen self.old) (piece_seen self.new)) }
     {
-        self.table.add_lent(place, values, argument)
+        self.table.add_lent(index, values, argument)
     }
 
     /// Notes an exit at the firing of this number: the first counts.
@@ -130,13 +130,13 @@ impl Piece {
         }
     }
 
-    /// Notes a fault of the clause at this place, from 1, at the firing of this number, which was
+    /// Notes a fault of the clause at this index, from 1, at the firing of this number, which was
     /// taken: its line takes the place of the texts after the first `before`. Contributions and an
     /// exit stay.
     pub(crate) fn note_fault(
         &mut self,
         number: u64,
-        place: u64,
+        index: u64,
         before: usize,
     ) -> Result<(), AllocError>
         requires { Contains self.old.taken.items number }
@@ -144,25 +144,25 @@ impl Piece {
         ensures taken { self.new.taken.items ≡ self.old.taken.items }
         ensures exit { self.new.exit ≡ self.old.exit }
         ensures texts { OnOk result (self.new.events.items
-            ≡ take before self.old.events.items ++ (number, fault_line number place) ∷ []) }
+            ≡ take before self.old.events.items ++ (number, fault_line number index) ∷ []) }
     {
         self.events.truncate(before);
-        let line = fault_line(*self.taken.allocator(), number, place)?;
+        let line = fault_line(*self.taken.allocator(), number, index)?;
         self.events.push((number, line))?;
         Ok(())
     }
 }
 
-// The line of a division by 0, at the firing of this number in the clause at this place of the
+// The line of a division by 0, at the firing of this number in the clause at this index of the
 // script, from 1.
-fn fault_line(alloc: Global, number: u64, place: u64) -> Result<Text, AllocError>
-    ensures { IfOk result (λ t. t ≡ fault_line number place) }
+fn fault_line(alloc: Global, number: u64, index: u64) -> Result<Text, AllocError>
+    ensures { IfOk result (λ t. t ≡ fault_line number index) }
 {
     let mut buffer = Buffer::new();
     let mut line = Vec::from_slice(alloc, b"error: firing ")?;
     line.extend_from_slice(buffer.format(number).as_bytes())?;
     line.extend_from_slice(b" clause ")?;
-    line.extend_from_slice(buffer.format(place).as_bytes())?;
+    line.extend_from_slice(buffer.format(index).as_bytes())?;
     line.extend_from_slice(b": divide-by-zero\n")?;
     Ok(Text::from(line))
 }

@@ -6,40 +6,40 @@ ghost use Rattle.replay_core.specs.Vocabulary.{IsTrace, row_before};
 
 use firings::{Firing, FiringRows, Trace};
 
-/// The firing of a run over a trace at a place: BEGIN has place 0, the rows follow, and END is the
+/// The firing of a run over a trace at an index: BEGIN has index 0, the rows follow, and END is the
 /// last.
-pub(crate) fn firing_at(trace: &Trace, place: u32) -> Firing<'_>
-    requires { place < length (with_ends trace.now trace.now) }
-    ensures firing { slice_get (with_ends trace.now trace.now) place ≡ Some result }
+pub(crate) fn firing_at(trace: &Trace, index: u32) -> Firing<'_>
+    requires { index < length (with_ends trace.now trace.now) }
+    ensures firing { slice_get (with_ends trace.now trace.now) index ≡ Some result }
     ensures ranges { HasRanges result }
     ensures few { length (with_ends trace.now trace.now) ≤ most_firings }
 {
     let rows = trace.firings();
-    if place == 0 {
+    if index == 0 {
         return trace.begin();
     }
-    let row = place as usize - 1;
+    let row = index as usize - 1;
     if row < rows.len() {
         return rows.get(row);
     }
     trace.end()
 }
 
-/// The firing of a run at a place, whose row was read with others, if it has one.
+/// The firing of a run at an index, whose row was read with others, if it has one.
 pub(crate) fn read_at<'a>(
     trace: &'a Trace,
-    place: u32,
+    index: u32,
     rows: &FiringRows<'a>,
     at: usize,
 ) -> Firing<'a>
     requires trace { IsTrace trace.now }
-    requires row { slice_get rows.now at ≡ Some (row_before trace.now place) }
-    requires within { place < length (with_ends trace.now trace.now) }
-    ensures firing { slice_get (with_ends trace.now trace.now) place ≡ Some result }
+    requires row { slice_get rows.now at ≡ Some (row_before trace.now index) }
+    requires within { index < length (with_ends trace.now trace.now) }
+    ensures firing { slice_get (with_ends trace.now trace.now) index ≡ Some result }
     ensures ranges { HasRanges result }
 {
     match rows.get(at) {
         Some(firing) => firing,
-        None => firing_at(trace, place),
+        None => firing_at(trace, index),
     }
 }

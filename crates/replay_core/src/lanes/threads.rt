@@ -18,7 +18,7 @@ use crate::lanes::clause_runs::run_clauses;
 use crate::lanes::piece::Piece;
 use crate::lanes::state::State;
 use crate::lanes::tables::Tables;
-use crate::selection::clause_places::ClausePlaces;
+use crate::selection::clause_indices::ClauseIndices;
 use d_lexer::MAX_BYTES;
 use firings::Firing;
 use indexmap::IndexMap;
@@ -31,11 +31,11 @@ const CACHED: usize = 256;
 /// The indices of the threads that fired lately.
 pub(crate) type ThreadCache = DirectMapped<{ CACHED }>;
 
-/// What runs for a firing: the clauses at these places, in their order.
+/// What runs for a firing: the clauses at these indices, in their order.
 #[derive(Drop)]
 pub(crate) struct Due<'a, C> {
     pub(crate) clauses: &'a [C],
-    pub(crate) places: &'a ClausePlaces,
+    pub(crate) indices: &'a ClauseIndices,
     pub(crate) firing: &'a Firing<'a>,
 }
 
@@ -48,11 +48,11 @@ pub(crate) fn run_on_thread<C: Clause>(
     spare: &mut Spare,
     piece: &mut Piece,
 ) -> Result<bool, AllocError>
-    requires there { All (λ place. place < length due.now.clauses.now) due.now.places.now }
+    requires there { All (λ index. index < length due.now.clauses.now) due.now.indices.now }
     requires named { All (λ c.
-        C.places c ≤ length (functions_of piece.old.table)) due.now.clauses.now }
+        C.indices c ≤ length (functions_of piece.old.table)) due.now.clauses.now }
     requires few { All (λ c. C.most c ≤ MAX_BYTES) due.now.clauses.now }
-    requires room { count_held piece.old.table + MAX_BYTES * length due.now.places.now ≤ 2 ^ 52 }
+    requires room { count_held piece.old.table + MAX_BYTES * length due.now.indices.now ≤ 2 ^ 52 }
     requires taken { Contains piece.old.taken.items due.now.firing.now.number }
     ensures functions { functions_of piece.new.table ≡ functions_of piece.old.table }
     ensures taken { piece.new.taken.items ≡ piece.old.taken.items }
@@ -60,13 +60,13 @@ pub(crate) fn run_on_thread<C: Clause>(
         → AllMean C.means slots due.now.clauses.now cs → HasTypedBuiltIns due.now.firing.now
         → AreTypedOwn slots (threads_in threads.old.entries due.now.firing.now.thread)
         → RunsOn due.now.firing.now
-        (made_on due.now.firing.now cs due.now.places.now (threads_in threads.old.entries))
+        (made_on due.now.firing.now cs due.now.indices.now (threads_in threads.old.entries))
         (threads_in threads.old.entries) (threads_in threads.new.entries) piece.old piece.new
         exits) }
     ensures held { OnOk result (count_held piece.new.table
-        ≤ count_held piece.old.table + MAX_BYTES * length due.now.places.now) }
+        ≤ count_held piece.old.table + MAX_BYTES * length due.now.indices.now) }
 {
-    if due.places.is_empty() {
+    if due.indices.is_empty() {
         return Ok(false);
     }
     let index = index_for(threads, cache, due.firing.thread)?;
@@ -84,27 +84,27 @@ fn run_on_tables<C: Clause>(
     spare: &mut Spare,
     piece: &mut Piece,
 ) -> Result<bool, AllocError>
-    requires there { All (λ place. place < length due.now.clauses.now) due.now.places.now }
+    requires there { All (λ index. index < length due.now.clauses.now) due.now.indices.now }
     requires named { All (λ c.
-        C.places c ≤ length (functions_of piece.old.table)) due.now.clauses.now }
+        C.indices c ≤ length (functions_of piece.old.table)) due.now.clauses.now }
     requires few { All (λ c. C.most c ≤ MAX_BYTES) due.now.clauses.now }
-    requires room { count_held piece.old.table + MAX_BYTES * length due.now.places.now ≤ 2 ^ 52 }
+    requires room { count_held piece.old.table + MAX_BYTES * length due.now.indices.now ≤ 2 ^ 52 }
     requires taken { Contains piece.old.taken.items due.now.firing.now.number }
     ensures functions { functions_of piece.new.table ≡ functions_of piece.old.table }
     ensures taken { piece.new.taken.items ≡ piece.old.taken.items }
     ensures notes { OnOk result ((slots : Slots) (cs : List ClauseMeant)
         → AllMean C.means slots due.now.clauses.now cs → HasTypedBuiltIns due.now.firing.now
         → AreTyped slots (variables_of tables.old) →
-        let made = all_made due.now.firing.now cs due.now.places.now (variables_of tables.old) in
+        let made = all_made due.now.firing.now cs due.now.indices.now (variables_of tables.old) in
         Notes due.now.firing.now.number made (piece_seen piece.old) (piece_seen piece.new)
         × (variables_of tables.new ≡ made.variables)) }
     ensures exits { IfOk result (λ exits. (slots : Slots) (cs : List ClauseMeant)
         → AllMean C.means slots due.now.clauses.now cs → HasTypedBuiltIns due.now.firing.now
         → AreTyped slots (variables_of tables.old) →
-        let made = all_made due.now.firing.now cs due.now.places.now (variables_of tables.old) in
+        let made = all_made due.now.firing.now cs due.now.indices.now (variables_of tables.old) in
         exits ≡ is_some made.exit) }
     ensures held { OnOk result (count_held piece.new.table
-        ≤ count_held piece.old.table + MAX_BYTES * length due.now.places.now) }
+        ≤ count_held piece.old.table + MAX_BYTES * length due.now.indices.now) }
 {
     let alloc = *piece.taken.allocator();
     let mut state = State {
@@ -113,7 +113,7 @@ fn run_on_tables<C: Clause>(
         tables,
         spare,
     };
-    run_clauses(due.clauses, due.places, &mut state, piece)
+    run_clauses(due.clauses, due.indices, &mut state, piece)
 }
 
 // The index of the thread's tables, which are made if it has none.

@@ -3,20 +3,20 @@
 ghost use Rattle.std.specs.Prelude.{◌≡◌, [], true, IfOk, IfSome, Some, slice_get};
 ghost use Rattle.replay_core.specs.{Selecting.list_at, Vocabulary.Extends};
 
-use crate::selection::clause_places::ClausePlaces;
+use crate::selection::clause_indices::ClauseIndices;
 use indexmap::IndexMap;
 use keyed_hash::HashKey;
 use std::alloc::{AllocError, Global};
 use std::hash::{BuildHasher, Hasher};
 use std::marker::Model;
 
-/// Lists of clauses by their places among a script's. Contracts see the lists.
+/// Lists of clauses by their indices among a script's. Contracts see the lists.
 #[derive(Drop)]
 pub(crate) struct ClauseLists {
-    lists: Vec<ClausePlaces>,
+    lists: Vec<ClauseIndices>,
     // One without clauses.
-    empty: ClausePlaces,
-    // By the hash of a list, the place of the last one that was added.
+    empty: ClauseIndices,
+    // By the hash of a list, the index of the last one that was added.
     hashed: IndexMap<u64, usize, HashKey>,
 }
 
@@ -36,71 +36,71 @@ impl ClauseLists {
     {
         ClauseLists {
             lists: Vec::new(alloc),
-            empty: ClausePlaces::new(alloc),
+            empty: ClauseIndices::new(alloc),
             hashed: IndexMap::with_hasher(alloc, hash_key),
         }
     }
 
-    /// The list at a place; an empty one if there is none.
-    pub(crate) fn at(&self, place: usize) -> &ClausePlaces
-        ensures { result.now ≡ list_at self.now place }
+    /// The list at an index; an empty one if there is none.
+    pub(crate) fn at(&self, index: usize) -> &ClauseIndices
+        ensures { result.now ≡ list_at self.now index }
     {
-        match self.lists.get(place) {
+        match self.lists.get(index) {
             Some(list) => list,
             None => &self.empty,
         }
     }
 
-    /// The place of a list, which is added if it isn't there.
-    pub(crate) fn keep(&mut self, list: ClausePlaces) -> Result<usize, AllocError>
+    /// The index of a list, which is added if it isn't there.
+    pub(crate) fn keep(&mut self, list: ClauseIndices) -> Result<usize, AllocError>
         ensures grows { Extends self.old self.new }
-        ensures place { IfOk result (λ p. slice_get self.new p ≡ Some list) }
+        ensures index { IfOk result (λ p. slice_get self.new p ≡ Some list) }
     {
         let hash = hash_of(*self.hashed.hasher(), &list);
         match self.kept_at(hash, &list) {
-            Some(place) => Ok(place),
+            Some(index) => Ok(index),
             None => self.add(hash, list),
         }
     }
 
-    // The place of a list that is found by its hash.
-    fn kept_at(&self, hash: u64, list: &ClausePlaces) -> Option<usize>
+    // The index of a list that is found by its hash.
+    fn kept_at(&self, hash: u64, list: &ClauseIndices) -> Option<usize>
         ensures { IfSome result (λ p. slice_get self.now p ≡ Some list.now) }
     {
-        let place = *self.hashed.get(&hash)?;
-        if is_at(&self.lists, place, list) {
-            Some(place)
+        let index = *self.hashed.get(&hash)?;
+        if is_at(&self.lists, index, list) {
+            Some(index)
         } else {
             None
         }
     }
 
-    // Adds a list at a new place.
-    fn add(&mut self, hash: u64, list: ClausePlaces) -> Result<usize, AllocError>
+    // Adds a list at a new index.
+    fn add(&mut self, hash: u64, list: ClauseIndices) -> Result<usize, AllocError>
         ensures grows { Extends self.old self.new }
-        ensures place { IfOk result (λ p. slice_get self.new p ≡ Some list) }
+        ensures index { IfOk result (λ p. slice_get self.new p ≡ Some list) }
     {
-        let place = self.lists.len();
+        let index = self.lists.len();
         self.lists.push(list)?;
-        self.hashed.insert(hash, place)?;
-        Ok(place)
+        self.hashed.insert(hash, index)?;
+        Ok(index)
     }
 }
 
-// Whether this list is at a place.
-fn is_at(lists: &[ClausePlaces], place: usize, list: &ClausePlaces) -> bool
-    ensures { result ≡ true → slice_get lists.now place ≡ Some list.now }
+// Whether this list is at an index.
+fn is_at(lists: &[ClauseIndices], index: usize, list: &ClauseIndices) -> bool
+    ensures { result ≡ true → slice_get lists.now index ≡ Some list.now }
 {
-    match lists.get(place) {
+    match lists.get(index) {
         Some(kept) => kept.is_same(list),
         None => false,
     }
 }
 
-fn hash_of(hash_key: HashKey, list: &ClausePlaces) -> u64 {
+fn hash_of(hash_key: HashKey, list: &ClauseIndices) -> u64 {
     let mut hasher = hash_key.build_hasher();
     for repeat in &list.repeats {
-        hasher.write(&(repeat.place as u64).to_le_bytes());
+        hasher.write(&(repeat.index as u64).to_le_bytes());
         hasher.write(&repeat.times.to_le_bytes());
     }
     hasher.finish()

@@ -9,11 +9,11 @@ ghost use Rattle.replay_core.specs.Steps.Described.{HaveKinds, IsSameKind, IsTab
 ghost use Rattle.replay_core.specs.Steps.Described.{given_of, hash_of_description};
 ghost use Rattle.replay_core.specs.Steps.Described.{GiveSame, hash_of_probe, hash_sought, is_exact};
 ghost use Rattle.replay_core.specs.Steps.Described.{is_found, is_given, where_given};
-ghost use Rattle.replay_core.specs.Places.{places_for};
+ghost use Rattle.replay_core.specs.Indices.{indices_for};
 ghost use Rattle.replay_core.specs.Uniting.{InOrder, with_number};
 
+use crate::selection::indices::merge;
 use crate::selection::matching::{is_literal, is_selected};
-use crate::selection::places::merge;
 use crate::sorting::{by_number, with_number};
 use d_parser::Description;
 use firings::Probe;
@@ -21,7 +21,7 @@ use keyed_hash::HashKey;
 use std::alloc::{AllocError, Global};
 use std::hash::{BuildHasher, Hasher};
 
-// A description, the place of its clause, and that of its kind.
+// A description, the index of its clause, and that of its kind.
 #[derive(Drop)]
 pub(crate) struct Described<'a> {
     clause: usize,
@@ -114,11 +114,11 @@ impl<'a> DescriptionTable<'a> {
         })
     }
 
-    /// The places of the clauses that run for the probe: in the script's order, each once for each
+    /// The indices of the clauses that run for the probe: in the script's order, each once for each
     /// of its descriptions that selects it.
     pub(crate) fn clauses(&self, alloc: Global, probe: &Probe) -> Result<Vec<usize>, AllocError>
         ensures { (ds : List (List Description)) → IsTableOf self.now ds
-            → IfOk result (λ v. v.items ≡ places_for probe.now 0 ds) }
+            → IfOk result (λ v. v.items ≡ indices_for probe.now 0 ds) }
     {
         let mut clauses = Vec::new(alloc);
         for (kind, like) in self.kinds.iter().enumerate() {
@@ -129,7 +129,7 @@ impl<'a> DescriptionTable<'a> {
         Ok(clauses)
     }
 
-    // The places of the clauses whose descriptions of a kind, with this hash, select the probe.
+    // The indices of the clauses whose descriptions of a kind, with this hash, select the probe.
     fn clauses_of_kind(
         &self,
         alloc: Global,
@@ -161,7 +161,7 @@ fn is_exact(description: &Description) -> bool
         && is_literal(description.name.as_slice())
 }
 
-// The place of a kind, which is added if it isn't there.
+// The index of a kind, which is added if it isn't there.
 fn kind_of<'a>(
     kinds: &mut Vec<Option<&'a Description>>,
     own: Option<&'a Description>,

@@ -2,7 +2,7 @@
 
 ghost use Rattle.std.specs.Prelude.{◌≡◌, ◌+◌, ◌≤◌, ◌^◌, IfOk, length, map};
 ghost use Rattle.d_types.specs.Clauses as spec;
-ghost use Rattle.replay_core.specs.{Bounds.places_among, Evaluation.Stays};
+ghost use Rattle.replay_core.specs.{Bounds.indices_among, Evaluation.Stays};
 ghost use Rattle.replay_core.specs.Effects.{HasTaken, IsNotedRun};
 ghost use Rattle.replay_core.specs.Vocabulary.{count_held, functions_of};
 
@@ -17,11 +17,11 @@ use std::alloc::AllocError;
 // of all.
 fn run_statements<X: Expression, S: Statement<X>>(
     statements: &[S],
-    place: u64,
+    index: u64,
     state: &mut State<'_>,
     piece: &mut Piece,
 ) -> Result<bool, AllocError>
-    requires places { places_among (map S.form statements.now)
+    requires indices { indices_among (map S.form statements.now)
         ≤ length (functions_of piece.old.table) }
     requires room { count_held piece.old.table + length statements.now ≤ 2 ^ 52 }
     requires taken { HasTaken state.old piece.old }
@@ -30,7 +30,7 @@ fn run_statements<X: Expression, S: Statement<X>>(
     ensures held { count_held piece.new.table ≤ count_held piece.old.table + length statements.now }
     ensures state { Stays state.old state.new }
     ensures run { IfOk result (IsNotedRun
-        (λ f vars. spec.run_result (spec.fault_line f.number place)
+        (λ f vars. spec.run_result (spec.fault_line f.number index)
         (spec.statements_by (X.by f) (map S.form statements.now) vars))
         state.old state.new piece.old piece.new) }
 {
@@ -40,7 +40,7 @@ fn run_statements<X: Expression, S: Statement<X>>(
         match statement.perform(state, piece) {
             Ok(exited) => exits |= exited,
             Err(EvalFault::DivideByZero) => {
-                piece.note_fault(state.firing.number, place, before)?;
+                piece.note_fault(state.firing.number, index, before)?;
                 return Ok(exits);
             }
             Err(EvalFault::Memory) => return Err(AllocError),
@@ -50,16 +50,16 @@ fn run_statements<X: Expression, S: Statement<X>>(
 }
 
 /// Runs a clause for a firing that its description matches: the predicate, and the statements if
-/// that isn't 0 (Dynamic Tracing Guide, "Predicates"). Returns whether it exits. The place is that
+/// that isn't 0 (Dynamic Tracing Guide, "Predicates"). Returns whether it exits. The index is that
 /// among the script's clauses, from 1.
 pub(crate) fn run_clause<X: Expression, S: Statement<X>>(
     predicate: &Option<X>,
     statements: &[S],
-    place: u64,
+    index: u64,
     state: &mut State<'_>,
     piece: &mut Piece,
 ) -> Result<bool, AllocError>
-    requires places { places_among (map S.form statements.now)
+    requires indices { indices_among (map S.form statements.now)
         ≤ length (functions_of piece.old.table) }
     requires room { count_held piece.old.table + length statements.now ≤ 2 ^ 52 }
     requires taken { HasTaken state.old piece.old }
@@ -68,7 +68,7 @@ pub(crate) fn run_clause<X: Expression, S: Statement<X>>(
     ensures held { count_held piece.new.table ≤ count_held piece.old.table + length statements.now }
     ensures state { Stays state.old state.new }
     ensures run { IfOk result (IsNotedRun
-        (λ f. spec.run_by (X.by f) (spec.fault_line f.number place) predicate.now
+        (λ f. spec.run_by (X.by f) (spec.fault_line f.number index) predicate.now
         (map S.form statements.now)) state.old state.new piece.old piece.new) }
 {
     if let Some(predicate) = predicate {
@@ -77,11 +77,11 @@ pub(crate) fn run_clause<X: Expression, S: Statement<X>>(
             Ok(_) => {}
             Err(EvalFault::DivideByZero) => {
                 let texts = piece.events.len();
-                piece.note_fault(state.firing.number, place, texts)?;
+                piece.note_fault(state.firing.number, index, texts)?;
                 return Ok(false);
             }
             Err(EvalFault::Memory) => return Err(AllocError),
         }
     }
-    run_statements(statements, place, state, piece)
+    run_statements(statements, index, state, piece)
 }

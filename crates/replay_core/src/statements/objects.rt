@@ -76,32 +76,32 @@ fn run_for_word(object: &TypedObject, state: &mut State<'_>) -> Result<u64, Eval
 fn run_for_part(
     object: &TypedObject,
     key: &mut Key,
-    place: usize,
+    index: usize,
     state: &mut State<'_>,
 ) -> Result<(), EvalFault>
-    requires { place < length key.old }
+    requires { index < length key.old }
     ensures length { length key.new ≡ length key.old }
     ensures part { PutsPart (λ f vars. with (spec.value_of f object.now.object vars)
-        (λ x. Has (slice_set key.old place (part_of x)))) result key.new state.old state.new }
+        (λ x. Has (slice_set key.old index (part_of x)))) result key.new state.old state.new }
 {
     let value = run_on_state!(object, state)?;
-    set_part(key, place, value)?;
+    set_part(key, index, value)?;
     Ok(())
 }
 
 // Puts a value that is lent in the place of a key's part.
-fn set_part(key: &mut Key, place: usize, value: ValueRef<'_>) -> Result<(), AllocError>
-    requires { place < length key.old }
+fn set_part(key: &mut Key, index: usize, value: ValueRef<'_>) -> Result<(), AllocError>
+    requires { index < length key.old }
     ensures ok { OnOk result
-        (key.new ≡ slice_set key.old place (part_of (lent_value value.entry))) }
+        (key.new ≡ slice_set key.old index (part_of (lent_value value.entry))) }
     ensures err { OnErr result (key.new ≡ key.old) }
 {
     match value {
         ValueRef::Int(word) => {
-            key.set_number(place, word.cast_signed());
+            key.set_number(index, word.cast_signed());
             Ok(())
         }
-        ValueRef::Text(bytes) => key.set_name(place, bytes),
+        ValueRef::Text(bytes) => key.set_name(index, bytes),
     }
 }
 
@@ -110,8 +110,8 @@ fn run_for_key(objects: &[TypedObject], state: &mut State<'_>) -> Result<Key, Ev
     ensures { Meets (λ f. spec.key_of_objects f objects.now) result state.old state.new }
 {
     let mut key = state.spare.take(objects.len())?;
-    for (place, object) in objects.iter().enumerate() {
-        run_for_part(object, &mut key, place, state)?;
+    for (index, object) in objects.iter().enumerate() {
+        run_for_part(object, &mut key, index, state)?;
     }
     Ok(key)
 }
@@ -200,8 +200,8 @@ impl Statement<TypedObject> for Action {
             Action::Trace(e) => trace(e, state, piece),
             Action::Printf(format, arguments) => { print(format, arguments, state, piece) }
             Action::Exit(e) => exit(e, state, piece),
-            Action::Aggregate(place, keys, argument) => aggregate(
-                *place, keys, argument, state, piece,
+            Action::Aggregate(index, keys, argument) => aggregate(
+                *index, keys, argument, state, piece,
             ),
         }
     }

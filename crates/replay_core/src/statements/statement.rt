@@ -2,7 +2,7 @@
 
 ghost use Rattle.std.specs.Prelude.{◌≡◌, ◌+◌, ◌<◌, ◌≤◌, ◌^◌, List, length};
 ghost use Rattle.d_types.specs.Typed as typed;
-ghost use Rattle.replay_core.specs.{Bounds.place_in, Effects.HasTaken, Evaluation.Meets};
+ghost use Rattle.replay_core.specs.{Bounds.index_in, Effects.HasTaken, Evaluation.Meets};
 ghost use Rattle.replay_core.specs.Steps.Effects.{HasOneMore, HasRoomAt, IsPerformed};
 ghost use Rattle.replay_core.specs.Vocabulary.{ActionOf, count_held, effect_by, functions_of};
 ghost use Rattle.replay_core.specs.Vocabulary.{Effect, Has, argument_by, with};
@@ -100,64 +100,64 @@ pub(crate) fn exit<X: Expression>(
 
 /// `@name[keys] = function(argument)`
 pub(crate) fn aggregate<X: Expression>(
-    place: usize,
+    index: usize,
     keys: &[X],
     argument: &Option<X>,
     state: &mut State<'_>,
     piece: &mut Piece,
 ) -> Result<bool, EvalFault>
-    requires { HasRoomAt place piece.old }
+    requires { HasRoomAt index piece.old }
     ensures piece { HasOneMore piece.old piece.new }
     ensures effect { IsPerformed
-        (λ f. effect_by (X.by f) (typed.Aggregate place keys.now argument.now))
+        (λ f. effect_by (X.by f) (typed.Aggregate index keys.now argument.now))
         result state.old state.new piece.old piece.new }
 {
     let mut key = LentKey::new();
     if X::lend_key(keys, state.firing, &mut key) {
-        return aggregate_lent(place, &key, argument, state, piece);
+        return aggregate_lent(index, &key, argument, state, piece);
     }
-    aggregate_evaluated(place, keys, argument, state, piece)
+    aggregate_evaluated(index, keys, argument, state, piece)
 }
 
 // An aggregation statement whose key is lent.
 #[inline(always)]
 fn aggregate_lent<X: Expression>(
-    place: usize,
+    index: usize,
     key: &LentKey<'_>,
     argument: &Option<X>,
     state: &mut State<'_>,
     piece: &mut Piece,
 ) -> Result<bool, EvalFault>
-    requires { HasRoomAt place piece.old }
+    requires { HasRoomAt index piece.old }
     ensures piece { HasOneMore piece.old piece.new }
     ensures effect { IsPerformed
         (λ f vars. with (argument_by (X.by f) argument.now vars)
-        (λ z. Has (Effect.Adds place key.now z)))
+        (λ z. Has (Effect.Adds index key.now z)))
         result state.old state.new piece.old piece.new }
 {
     let given = evaluate_argument(argument, state)?;
-    piece.note_lent_contribution(place, key.values(), given)?;
+    piece.note_lent_contribution(index, key.values(), given)?;
     Ok(false)
 }
 
 // An aggregation statement whose key is evaluated.
 #[inline(always)]
 fn aggregate_evaluated<X: Expression>(
-    place: usize,
+    index: usize,
     keys: &[X],
     argument: &Option<X>,
     state: &mut State<'_>,
     piece: &mut Piece,
 ) -> Result<bool, EvalFault>
-    requires { HasRoomAt place piece.old }
+    requires { HasRoomAt index piece.old }
     ensures piece { HasOneMore piece.old piece.new }
     ensures effect { IsPerformed
-        (λ f. effect_by (X.by f) (typed.Aggregate place keys.now argument.now))
+        (λ f. effect_by (X.by f) (typed.Aggregate index keys.now argument.now))
         result state.old state.new piece.old piece.new }
 {
     let key = X::evaluate_key(keys, state)?;
     let number = evaluate_argument(argument, state)?;
-    piece.note_contribution(place, &key, number)?;
+    piece.note_contribution(index, &key, number)?;
     state.spare.keep(key);
     Ok(false)
 }
@@ -170,7 +170,7 @@ pub(crate) trait Statement<X: Expression> {
     /// Runs it: notes what it does beside its assignments, and returns whether it exits. At a
     /// division by 0 it fails, and only the assignments made so far have effect.
     fn perform(&self, state: &mut State<'_>, piece: &mut Piece) -> Result<bool, EvalFault>
-        requires place { place_in (form self.now) ≤ length (functions_of piece.old.table) }
+        requires index { index_in (form self.now) ≤ length (functions_of piece.old.table) }
         requires room { count_held piece.old.table < 2 ^ 52 }
         requires taken { HasTaken state.old piece.old }
         ensures held { count_held piece.new.table ≤ count_held piece.old.table + 1 }

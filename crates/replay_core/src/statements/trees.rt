@@ -60,8 +60,8 @@ impl Statement<TypedExpr> for TypedStmt {
             TypedStmt::Trace(e) => trace(e, state, piece),
             TypedStmt::Print(format, arguments) => { print(format, arguments, state, piece) }
             TypedStmt::Exit(e) => exit(e, state, piece),
-            TypedStmt::Aggregate(place, keys, argument) => aggregate(
-                *place, keys, argument, state, piece,
+            TypedStmt::Aggregate(index, keys, argument) => aggregate(
+                *index, keys, argument, state, piece,
             ),
         }
     }

@@ -68,7 +68,7 @@ impl<'a, L: Lanes> Promise<Worked> for Works<'a, L> {
 pub(crate) trait LendSelections {
     ghost use Rattle.std.specs.Prelude.{◌≡◌, ℕ, List};
 
-    /// The places of the clauses, firing by firing.
+    /// The indices of the clauses, firing by firing.
     ghost lent: { Self → List (List ℕ) };
 
     /// The selections themselves.

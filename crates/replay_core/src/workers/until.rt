@@ -156,20 +156,20 @@ fn piece_until<S: Exits, L: Lanes, G>(
     ensures least { IfOk result (λ p. S.lowered seat.new ≡ lesser_of (S.lowered seat.old) p.exit) }
 {
     let mut lane = input.lanes.lane(input.alloc)?;
-    let Ok(()) = run_until(source, seat, &mut lane, input, input.groups.places(group)) else {
+    let Ok(()) = run_until(source, seat, &mut lane, input, input.groups.indices(group)) else {
         drop(lane);
         return Err(AllocError);
     };
     Ok(lane.finish())
 }
 
-// Runs a beginning of the firings at these places.
+// Runs a beginning of the firings at these indices.
 fn run_until<S: Exits, E: Engine, L, G>(
     source: &S,
     seat: &mut S::Seat,
     lane: &mut E,
     input: &WorkerInput<L, G>,
-    places: &[u32],
+    indices: &[u32],
 ) -> Result<(), AllocError>
     requires seat { S.is_at source.now seat.old }
     requires script { (m : ScriptMeant) × E.runs lane.old m
@@ -177,9 +177,9 @@ fn run_until<S: Exits, E: Engine, L, G>(
     requires fresh { (m : ScriptMeant) → E.runs lane.old m → IsLaneOf m [] (E.seen lane.old) }
     requires unspent { IsFalse (E.is_spent lane.old) }
     requires short { All (λ clauses. length clauses ≤ MAX_BYTES) input.now.selections.now }
-    requires places { All (λ place. place
-        < length (with_ends input.now.trace.now input.now.trace.now)) places.now }
-    requires few { length places.now
+    requires indices { All (λ index. index
+        < length (with_ends input.now.trace.now input.now.trace.now)) indices.now }
+    requires few { length indices.now
         ≤ length (with_ends input.now.trace.now input.now.trace.now) }
     ensures seat { OnOk result (S.is_at source.now seat.new × (S.list seat.new ≡ S.list seat.old)) }
     ensures seen { OnOk result (S.seen seat.new ≤ S.seen seat.old) }
@@ -187,17 +187,17 @@ fn run_until<S: Exits, E: Engine, L, G>(
     ensures run { OnOk result ((m : ScriptMeant) → E.runs lane.old m
         → AreFor input.now.trace.now input.now.selections.now m
         → RunsBeginning m (S.seen seat.new) (firings_at
-        (with_ends input.now.trace.now input.now.trace.now) places.now) (E.seen lane.new)) }
+        (with_ends input.now.trace.now input.now.trace.now) indices.now) (E.seen lane.new)) }
     ensures least { OnOk result ((m : ScriptMeant) → E.runs lane.old m
         → AreFor input.now.trace.now input.now.selections.now m
         → S.lowered seat.new ≡ lesser_of (S.lowered seat.old) (E.seen lane.new).piece.exit) }
 {
-    for place in places {
-        let firing = firing_at(input.trace, *place);
+    for index in indices {
+        let firing = firing_at(input.trace, *index);
         if is_past_exit(source, seat, &firing) {
             return Ok(());
         }
-        if fire(lane, &firing, input.selections.at(*place))? {
+        if fire(lane, &firing, input.selections.at(*index))? {
             tell_exit(source, seat, &firing);
             return Ok(());
         }

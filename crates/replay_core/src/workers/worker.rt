@@ -16,7 +16,7 @@ use crate::lanes::engine::Engine;
 use crate::lanes::piece::Piece;
 use crate::lanes::run_firings::read_at;
 use crate::selection::Selections;
-use crate::selection::clause_places::ClausePlaces;
+use crate::selection::clause_indices::ClauseIndices;
 use crate::workers::gate::Gate;
 use crate::workers::source::Source;
 use crate::workers::span::Span;
@@ -153,17 +153,17 @@ impl<'a, L: Lanes, G> WorkerInput<'a, L, G> {
             (firings_in span self.now.trace.now) (group, p)) }
         ensures roomy { IfOk result IsRoomy }
     {
-        let places = self.groups.places(group);
+        let indices = self.groups.indices(group);
         let lane = self.lanes.lane(self.alloc)?;
-        let lane = self.run_at(lane, places, span)?;
+        let lane = self.run_at(lane, indices, span)?;
         Ok(lane.finish())
     }
 
-    // Runs those of the firings at these places that count.
+    // Runs those of the firings at these indices that count.
     fn run_at<E: Engine + Drop>(
         &self,
         mut lane: E,
-        places: &[u32],
+        indices: &[u32],
         span: Span,
     ) -> Result<E, AllocError>
         requires script { (m : ScriptMeant) × E.runs lane m
@@ -171,9 +171,9 @@ impl<'a, L: Lanes, G> WorkerInput<'a, L, G> {
         requires fresh { (m : ScriptMeant) → E.runs lane m → IsLaneOf m [] (E.seen lane) }
         requires unspent { IsFalse (E.is_spent lane) }
         requires short { All (λ clauses. length clauses ≤ MAX_BYTES) self.now.selections.now }
-        requires places { All (λ place. place
-            < length (with_ends self.now.trace.now self.now.trace.now)) places.now }
-        requires few { length places.now
+        requires indices { All (λ index. index
+            < length (with_ends self.now.trace.now self.now.trace.now)) indices.now }
+        requires few { length indices.now
             ≤ length (with_ends self.now.trace.now self.now.trace.now) }
         ensures script { IfOk result (λ l. (m : ScriptMeant) → E.runs lane m
             → AreFor self.now.trace.now self.now.selections.now m → E.runs l m) }
@@ -181,9 +181,9 @@ impl<'a, L: Lanes, G> WorkerInput<'a, L, G> {
         ensures run { IfOk result (λ l. (m : ScriptMeant) → E.runs lane m
             → AreFor self.now.trace.now self.now.selections.now m
             → IsLaneOf m (filter (is_in span) (firings_at
-            (with_ends self.now.trace.now self.now.trace.now) places.now)) (E.seen l)) }
+            (with_ends self.now.trace.now self.now.trace.now) indices.now)) (E.seen l)) }
     {
-        for block in places.chunks(MAX_TOGETHER) {
+        for block in indices.chunks(MAX_TOGETHER) {
             let Ok(()) = self.run_block(&mut lane, block, span) else {
                 drop(lane);
                 return Err(AllocError);
@@ -192,22 +192,22 @@ impl<'a, L: Lanes, G> WorkerInput<'a, L, G> {
         Ok(lane)
     }
 
-    // Runs those of the firings at these few places that count. The rows and the lists of clauses
+    // Runs those of the firings at these few indices that count. The rows and the lists of clauses
     // are read first: no read needs another, so that the processor waits for all of them at once.
     fn run_block<E: Engine>(
         &self,
         lane: &mut E,
-        places: &[u32],
+        indices: &[u32],
         span: Span,
     ) -> Result<(), AllocError>
         requires script { (m : ScriptMeant) × E.runs lane.old m
             × AreFor self.now.trace.now self.now.selections.now m }
         requires unspent { IsFalse (E.is_spent lane.old) }
         requires short { All (λ clauses. length clauses ≤ MAX_BYTES) self.now.selections.now }
-        requires places { All (λ place. place
-            < length (with_ends self.now.trace.now self.now.trace.now)) places.now }
-        requires together { length places.now ≤ MAX_TOGETHER }
-        requires few { length (E.seen lane.old).piece.taken + length places.now
+        requires indices { All (λ index. index
+            < length (with_ends self.now.trace.now self.now.trace.now)) indices.now }
+        requires together { length indices.now ≤ MAX_TOGETHER }
+        requires few { length (E.seen lane.old).piece.taken + length indices.now
             ≤ length (with_ends self.now.trace.now self.now.trace.now) }
         ensures script { OnOk result ((m : ScriptMeant) → E.runs lane.old m
             → AreFor self.now.trace.now self.now.selections.now m → E.runs lane.new m) }
@@ -216,23 +216,23 @@ impl<'a, L: Lanes, G> WorkerInput<'a, L, G> {
             → AreFor self.now.trace.now self.now.selections.now m
             → IsLaneOf m before (E.seen lane.old)
             → IsLaneOf m (before ++ filter (is_in span) (firings_at
-            (with_ends self.now.trace.now self.now.trace.now) places.now)) (E.seen lane.new)) }
+            (with_ends self.now.trace.now self.now.trace.now) indices.now)) (E.seen lane.new)) }
     {
-        let rows = self.trace.firings().rows(places);
-        let lists = self.selections.lists(places);
-        for (at, place) in places.iter().enumerate() {
-            let firing = read_at(self.trace, *place, &rows, at);
+        let rows = self.trace.firings().rows(indices);
+        let lists = self.selections.lists(indices);
+        for (at, index) in indices.iter().enumerate() {
+            let firing = read_at(self.trace, *index, &rows, at);
             run_one(lane, &firing, lists[at], span)?;
         }
         Ok(())
     }
 }
 
-// Runs the clauses at these places for a firing, if it counts.
+// Runs the clauses at these indices for a firing, if it counts.
 fn run_one<E: Engine>(
     lane: &mut E,
     firing: &Firing,
-    clauses: Option<&ClausePlaces>,
+    clauses: Option<&ClauseIndices>,
     span: Span,
 ) -> Result<(), AllocError>
     requires ranges { HasRanges firing.now }
@@ -258,11 +258,11 @@ fn run_one<E: Engine>(
     Ok(())
 }
 
-/// Fires a firing, whose clauses are at these places if they were found.
+/// Fires a firing, whose clauses are at these indices if they were found.
 pub(crate) fn fire<E: Engine>(
     lane: &mut E,
     firing: &Firing,
-    clauses: Option<&ClausePlaces>,
+    clauses: Option<&ClauseIndices>,
 ) -> Result<bool, AllocError>
     requires ranges { HasRanges firing.now }
     requires selected { (m : ScriptMeant) × E.runs lane.old m

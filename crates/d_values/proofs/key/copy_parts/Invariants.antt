@@ -1,8 +1,8 @@
 use Rattle.std.proofs.Common.{◌≡◌, length, take, vec_len}
 use Rattle.d_values.proofs.key.copy_parts.Given as goal
 
-abbrev pub invariant-loop-place : goal.invariant-loop-place
-invariant-loop-place l = record {
+abbrev pub invariant-loop-index : goal.invariant-loop-index
+invariant-loop-index l = record {
   len : vec_len l.room ≡ length l.parts;
-  same : take l.place l.room.items ≡ take l.place l.parts;
+  same : take l.index l.room.items ≡ take l.index l.parts;
 }

@@ -15,9 +15,9 @@ returns-in-Some-clause-found c =
     let rest = c.in-Some.rest.now in
     let at = c.len.result - length rest in
     let size = ap length c.deref.ensures.value in
-    let place : at ≡ length x - length rest = omega (arith, c.len.ensures, size) in
+    let index : at ≡ length x - length rest = omega (arith, c.len.ensures, size) in
     rw (c.keep_from.ensures, ← c.deref.ensures.value)
-    (begins_plain x rest c.args.firings.now at c.requires h.begins h.header place)
+    (begins_plain x rest c.args.firings.now at c.requires h.begins h.header index)
 
 pub returns-in_err-read_records-clause-fault : goal.returns-in_err-read_records-clause-fault
 returns-in_err-read_records-clause-fault c =
@@ -26,12 +26,12 @@ returns-in_err-read_records-clause-fault c =
     let text = c.after_mark-text.ensures.text ∙ ap strip_bom c.deref-2.ensures.value in
     let end = (c.len-3.result - length c.after_mark-text.result.now) + e in
     let size = ap length text in
-    let place : end ≡ (length x - length (strip_bom x)) + e = omega (arith, c.len-3.ensures, size) in
+    let index : end ≡ (length x - length (strip_bom x)) + e = omega (arith, c.len-3.ensures, size) in
     let few : e ≤ length (strip_bom x) = omega (arith, c.end_of_rows.ensures.count, size) in
     let ends : RowsEnd (take e (strip_bom x)) = rw (sym text) c.end_of_rows.ensures.ends in
     let many : 3 < end = omega (arith, c.if-end.false) in
     let p = err_from_is_err_and c.from_residual.result c.from_residual.ensures.1 in
-    rw (p.1, p.2) (fault_of_header x end e c.in_err-read_records.field-0.0 many place few ends
+    rw (p.1, p.2) (fault_of_header x end e c.in_err-read_records.field-0.0 many index few ends
     (rw c.deref-3.ensures.value at c.in_err-read_records.ensures.faulty))
 
 pub returns-clause-found : goal.returns-clause-found
@@ -41,7 +41,7 @@ returns-clause-found c =
     let text = c.after_mark-text.ensures.text ∙ ap strip_bom c.deref-2.ensures.value in
     let end = (c.len-3.result - length c.after_mark-text.result.now) + e in
     let size = ap length text in
-    let place : end ≡ (length x - length (strip_bom x)) + e = omega (arith, c.len-3.ensures, size) in
+    let index : end ≡ (length x - length (strip_bom x)) + e = omega (arith, c.len-3.ensures, size) in
     let few : e ≤ length (strip_bom x) = omega (arith, c.end_of_rows.ensures.count, size) in
     let ends : RowsEnd (take e (strip_bom x)) = rw (sym text) c.end_of_rows.ensures.ends in
     let many : 3 < end = omega (arith, c.if-end.false) in
@@ -49,4 +49,4 @@ returns-clause-found c =
     let own = rw c.if-not-branch.false at c.in_ok-read_records.ensures.read in
     let read : trace_of (take end x) ≡ Ok c.read_records.new.firings = rw c.deref-3.ensures.value at own in
     rw (c.keep_from-2.ensures, next)
-    (begins_csv x end e c.read_records.new.firings many place few ends read)
+    (begins_csv x end e c.read_records.new.firings many index few ends read)

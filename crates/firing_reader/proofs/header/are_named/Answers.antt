@@ -22,9 +22,9 @@ names_in names = map (λ name. name.now) names
 named_at : (xs : List (List ℕ)) (names : List (Bor (List ℕ))) (i : ℕ) (d : Bor (List ℕ)) (b : Bool) → i < length names → b ≡ bytes_eq (field xs (i + 1)) (get_or names i d).now
     → b ≡ bytes_eq (get_or xs i []) (get_or (names_in names) i [])
 named_at xs names i d b lt is =
-    let place : i + 1 - 1 ≡ i = omega arith in
+    let index : i + 1 - 1 ≡ i = omega arith in
     let at = get_or-map (λ (name : Bor (List ℕ)). name.now) names i d [] lt in
-    rw at (is ∙ rw (place, field_there xs i) refl)
+    rw at (is ∙ rw (index, field_there xs i) refl)
 
 all_named : (xs ns : List (List ℕ)) → length xs ≡ length ns → ((i : ℕ) → i < length ns → bytes_eq (get_or xs i []) (get_or ns i []) ≡ true) → pointwise bytes_eq xs ns ≡ true
 all_named [] [] size all = refl

@@ -16,8 +16,8 @@ keep-requires c =
 pub returns-clause-grows : goal.returns-clause-grows
 returns-clause-grows c = seen_extends owner_in c.args.owners.now c.keep.new.self c.keep.ensures.grows
 
-pub returns-clause-place : goal.returns-clause-place
-returns-clause-place c =
+pub returns-clause-index : goal.returns-clause-index
+returns-clause-index c =
     let bytes = c.in_ok-bytes.bytes.items in
     let name = c.args.firing.now.execname in
     let (numbers, is) = c.in_ok-bytes.ensures in
@@ -25,5 +25,5 @@ returns-clause-place c =
     let o = owner_of c.args.firing.now in
     let own = part_first bytes name numbers c.count.result is c.count.ensures.value c.count.ensures.text in
     let same : owner_in (bytes, e) ≡ o = rw own.is refl in
-    let there = rw (c.deref.ensures.value, to_z-of_z w32 c.args.firing.now.thread (search rules), to_z-of_z w32 c.args.firing.now.pid (search rules)) at c.keep.ensures.place in
+    let there = rw (c.deref.ensures.value, to_z-of_z w32 c.args.firing.now.thread (search rules), to_z-of_z w32 c.args.firing.now.pid (search rules)) at c.keep.ensures.index in
     seen_kept owner_in c.keep.new.self (bytes, e) o c.keep.result same there

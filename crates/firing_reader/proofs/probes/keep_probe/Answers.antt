@@ -18,12 +18,12 @@ keep-requires c =
 pub returns-clause-grows : goal.returns-clause-grows
 returns-clause-grows c = seen_extends probe_in c.args.probes.now c.keep.new.self c.keep.ensures.grows
 
-pub returns-clause-place : goal.returns-clause-place
-returns-clause-place c =
+pub returns-clause-index : goal.returns-clause-index
+returns-clause-index c =
     let bytes = c.in_ok-bytes.bytes.items in
     let p = probe_of c.args.firing.now in
     let e : ProbeEntry = record { provider = c.count.result; probemod = c.count-2.result; probefunc = c.count-3.result; name = c.count-4.result } in
     let long : AreLong e p = record { provider = c.count.ensures.value; probemod = c.count-2.ensures.value; probefunc = c.count-3.ensures.value; name = c.count-4.ensures.value } in
     let texts : AreTexts p = record { provider = c.count.ensures.text; probemod = c.count-2.ensures.text; probefunc = c.count-3.ensures.text; name = c.count-4.ensures.text } in
     let same = probe_is bytes e p (probe_kept bytes e p c.in_ok-bytes.ensures long texts) in
-    seen_kept probe_in c.keep.new.self (bytes, e) p c.keep.result same (rw c.deref.ensures.value at c.keep.ensures.place)
+    seen_kept probe_in c.keep.new.self (bytes, e) p c.keep.result same (rw c.deref.ensures.value at c.keep.ensures.index)

@@ -34,8 +34,8 @@ returns-clause-read c =
     let b = c.read_plain-rest.new.firings in
     let size = ap length c.deref.ensures.value in
     let at = (c.len.result - length rest) + e in
-    let place : at ≡ (length x - length rest) + e = omega (arith, c.len.ensures, size) in
-    let left : c.keep_from.new.left.items ≡ 10 ∷ drop e r = c.keep_from.ensures ∙ ap (λ (l : List ℕ). 10 ∷ l) (rw (← c.deref.ensures.value) (left_from x rest end r e at c.read_plain-rest.ensures.left own place)) in
+    let index : at ≡ (length x - length rest) + e = omega (arith, c.len.ensures, size) in
+    let left : c.keep_from.new.left.items ≡ 10 ∷ drop e r = c.keep_from.ensures ∙ ap (λ (l : List ℕ). 10 ∷ l) (rw (← c.deref.ensures.value) (left_from x rest end r e at c.read_plain-rest.ensures.left own index)) in
     elim c.if-end-gt0.branch [
       | then-end-gt0+in_ok-read_by_csv w ↦ rw (left, w.firings-is, ← c.deref.ensures.value) (rows_read c.args.firings.now x b rest end r w.read_by_csv.new.firings e is_end c.read_plain-rest.ensures.read own c.end_of_rows-end.ensures.ends w.in_ok-read_by_csv.ensures.read)
       | else-end-gt0 w ↦ let none : e ≡ 0 = omega (arith, w.if-end-gt0.false) in

@@ -5,5 +5,5 @@ use Rattle.firings.proofs.firing_rows.rows_before.Given as goal
 abbrev pub invariant-loop-at : goal.invariant-loop-at
 invariant-loop-at l = record {
   size : length l.found ≡ 16;
-  rows : take l.at l.found ≡ map (row_before l.rows) (take l.at l.fn.places);
+  rows : take l.at l.found ≡ map (row_before l.rows) (take l.at l.fn.indices);
 }

@@ -9,6 +9,6 @@ use Rattle.firings.proofs.trace.threads_of.Given as goal
 abbrev pub invariant-loop-at : goal.invariant-loop-at
 invariant-loop-at l = record {
   seen : (q : ℤ) → (contains int_cmp l.seen q || is_among q (drop l.at (map thread_of l.firings))) ≡ is_among q (map thread_of l.firings);
-  sized : length l.noted.items ≡ length l.places.0;
-  noted : (o : ℕ) → get_or l.noted.items o false ≡ true → (t : ℤ) → slice_get l.places.0 o ≡ Some t → contains int_cmp l.seen t ≡ true;
+  sized : length l.noted.items ≡ length l.indices.0;
+  noted : (o : ℕ) → get_or l.noted.items o false ≡ true → (t : ℤ) → slice_get l.indices.0 o ≡ Some t → contains int_cmp l.seen t ≡ true;
 }

@@ -4,5 +4,5 @@ use Rattle.firings.proofs.unit.probe_at.Goals as goal
 
 pub returns : goal.returns
 returns c =
-    let is = seen_at probe_in c.args.probes.now c.args.place (c.at.result.0.now, c.at.result.1) c.at.ensures.there in
+    let is = seen_at probe_in c.args.probes.now c.args.index (c.at.result.0.now, c.at.result.1) c.at.ensures.there in
     rw (c.within.ensures, c.within-2.ensures, c.within-3.ensures, c.within-4.ensures) is

@@ -1,13 +1,13 @@
 use Rattle.std.proofs.Common.{◌≡◌, List, length, map, take}
 use Rattle.d_parser.specs.declared.tree.Description.{Description}
-use Rattle.firings.specs.Stored.{ArePlaces, Extends}
+use Rattle.firings.specs.Stored.{AreIndices, Extends}
 use Rattle.replay_core.specs.Steps.Described.{IsTableOf}
-use Rattle.replay_core.specs.Places.{places_for}
+use Rattle.replay_core.specs.Indices.{indices_for}
 use Rattle.replay_core.proofs.selection.lists_for.Given as goal
 
 abbrev pub invariant-loop-probe : goal.invariant-loop-probe
 invariant-loop-probe l = record {
   end : l.probe-end ≡ length l.firings.probes;
   grows : Extends l.fn.lists l.lists;
-  places : (ds : List (List Description)) → IsTableOf l.table ds → ArePlaces l.lists l.places.items (take l.probe (map (λ p. places_for p 0 ds) l.firings.probes));
+  indices : (ds : List (List Description)) → IsTableOf l.table ds → AreIndices l.lists l.indices.items (take l.probe (map (λ p. indices_for p 0 ds) l.firings.probes));
 }

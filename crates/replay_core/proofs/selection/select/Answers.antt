@@ -3,8 +3,8 @@ use Rattle.std.proofs.Common.{arith, ap, inr, subst, sym, ◌∙◌}
 use Rattle.d_types.specs.Held.{slots_of}
 use Rattle.firings.specs.Ends.{with_ends}
 use Rattle.replay_core.specs.Patterns.{probe_of}
-use Rattle.replay_core.specs.Places.{places_for}
-use Rattle.replay_core.proofs.FiringLemmas.{places_few}
+use Rattle.replay_core.specs.Indices.{indices_for}
+use Rattle.replay_core.proofs.FiringLemmas.{indices_few}
 use Rattle.replay_core.proofs.SelectionLemmas.{selected_few}
 use Rattle.replay_core.proofs.selection.select.Goals as goal
 
@@ -18,7 +18,7 @@ returns g c =
     let many = ap (λ l. sum_by length l) are ∙ all.probes in
     let is = c.of.ensures ∙ c.in_ok-found.ensures in
     record {
-      few = subst (All (λ places. length places ≤ 65536)) (sym is)
-          (selected_few (λ f. places_for (probe_of f) 0 ds) 65536 fs (λ f. let few = places_few (probe_of f) 0 ds in let most = c.requires in omega (arith, few, many, most)));
-      each = λ m zip. inr (is ∙ ap (λ l. map (λ f. places_for (probe_of f) 0 l) fs) (are ∙ all.meaning (slots_of m) m.clauses zip));
+      few = subst (All (λ indices. length indices ≤ 65536)) (sym is)
+          (selected_few (λ f. indices_for (probe_of f) 0 ds) 65536 fs (λ f. let few = indices_few (probe_of f) 0 ds in let most = c.requires in omega (arith, few, many, most)));
+      each = λ m zip. inr (is ∙ ap (λ l. map (λ f. indices_for (probe_of f) 0 l) fs) (are ∙ all.meaning (slots_of m) m.clauses zip));
     }

@@ -3,10 +3,10 @@ use Rattle.std.specs.Prelude.{vec_capacity}
 use Rattle.shard_queue.specs.Steps.Faults.{first_unfound}
 use Rattle.shard_queue.proofs.listing.every_number.Given as goal
 
-abbrev pub invariant-loop-place : goal.invariant-loop-place
-invariant-loop-place l = record {
-  items : map Some l.numbers.items ≡ take l.place l.found;
-  len : vec_len l.numbers ≡ l.place;
+abbrev pub invariant-loop-index : goal.invariant-loop-index
+invariant-loop-index l = record {
+  items : map Some l.numbers.items ≡ take l.index l.found;
+  len : vec_len l.numbers ≡ l.index;
   room : length l.found ≤ vec_capacity l.numbers;
-  rest : first_unfound l.threads l.found ≡ first_unfound (drop l.place l.threads) (drop l.place l.found);
+  rest : first_unfound l.threads l.found ≡ first_unfound (drop l.index l.threads) (drop l.index l.found);
 }

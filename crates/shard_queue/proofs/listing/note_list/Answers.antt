@@ -9,7 +9,7 @@ use mir.Syntax.{w32}
 use Rattle.shard_queue.specs.Groupings.{list_of}
 use Rattle.shard_queue.specs.Faults.{all_of, first_wrong}
 use Rattle.shard_queue.proofs.Lists.{take_next}
-use Rattle.shard_queue.proofs.Places.{mapped_at}
+use Rattle.shard_queue.proofs.Indices.{mapped_at}
 use Rattle.shard_queue.proofs.Sought.{has_at, map_same}
 use Rattle.shard_queue.proofs.Listed.{list_of-empty, noted, number_at}
 use Rattle.shard_queue.proofs.Wrongs.{right_next, right_ended, wrong_at}

@@ -12,7 +12,7 @@ use Rattle.aggregations.specs.Lent.{key_of}
 use Rattle.aggregations.specs.Steps.Entries.{Notes}
 use Rattle.aggregations.specs.Table.{entry_at}
 use Rattle.aggregations.specs.Values.{count_in}
-use Rattle.aggregations.proofs.PlaceLemmas.{held_counted, notes_there, set_same, sum_set}
+use Rattle.aggregations.proofs.IndexLemmas.{held_counted, notes_there, set_same, sum_set}
 use Rattle.aggregations.proofs.entries.Entries.note_at.Goals as goal
 
 pub returns-then-not-is_key_of-clause-absent : goal.returns-then-not-is_key_of-clause-absent

@@ -25,13 +25,13 @@ index_mut-requires c =
     let long : into_iter_len c.into_iter-agg-iterator.result.iter ≡ length all = search rules in
     let items = YieldsList-from_enumerate {s = c.into_iter-agg-iterator.result} (YieldsList-from_vec {s = c.into_iter-agg-iterator.result.iter} all starts long) (cc) in
     let t = YieldsList-turn items c.loop-agg.yielded c.loop-agg.agg-iterator c.loop-agg.yielded_by c.next.result c.next.new.self (c.in-Some.agg, c.in-Some.more) c.in-Some.is c.next.ensures.steps in
-    let place = length c.loop-agg.yielded in
-    let item = enumerated all place (c.in-Some.agg, c.in-Some.more) t.0 t.1 in
+    let index = length c.loop-agg.yielded in
+    let item = enumerated all index (c.in-Some.agg, c.in-Some.more) t.0 t.1 in
     let first = c.args.self.now in
     let now = c.loop-agg.self-inside.aggregations.items in
-    let m = subst (λ l. MergingTables first l place now) (sym c.other.view_is) c.loop-agg.invariant.0 in
+    let m = subst (λ l. MergingTables first l index now) (sym c.other.view_is) c.loop-agg.invariant.0 in
     let same = c.requires.functions ∙ ap functions_of (sym c.other.view_is) in
-    let many = tables_length first all now place same m in
+    let many = tables_length first all now index same m in
     let lt = item.1 in
     let at = item.0 in
     let goal : c.in-Some.agg < length now = omega arith in
@@ -44,20 +44,20 @@ merge-requires c =
     let long : into_iter_len c.into_iter-agg-iterator.result.iter ≡ length all = search rules in
     let items = YieldsList-from_enumerate {s = c.into_iter-agg-iterator.result} (YieldsList-from_vec {s = c.into_iter-agg-iterator.result.iter} all starts long) (cc) in
     let t = YieldsList-turn items c.loop-agg.yielded c.loop-agg.agg-iterator c.loop-agg.yielded_by c.next.result c.next.new.self (c.in-Some.agg, c.in-Some.more) c.in-Some.is c.next.ensures.steps in
-    let place = length c.loop-agg.yielded in
-    let item = enumerated all place (c.in-Some.agg, c.in-Some.more) t.0 t.1 in
+    let index = length c.loop-agg.yielded in
+    let item = enumerated all index (c.in-Some.agg, c.in-Some.more) t.0 t.1 in
     let first = c.args.self.now in
     let now = c.loop-agg.self-inside.aggregations.items in
-    let m = subst (λ l. MergingTables first l place now) (sym c.other.view_is) c.loop-agg.invariant.0 in
+    let m = subst (λ l. MergingTables first l index now) (sym c.other.view_is) c.loop-agg.invariant.0 in
     let same = c.requires.functions ∙ ap functions_of (sym c.other.view_is) in
-    let many = tables_length first all now place same m in
-    let within : place < length now = let lt = item.1 in omega arith in
+    let many = tables_length first all now index same m in
+    let within : index < length now = let lt = item.1 in omega arith in
     let was = subst (λ i. c.index_mut.result.now ≡ get_or now i c.index_mut.result.now) item.0 c.index_mut.ensures.value in
-    let room = tables_room first all now place c.index_mut.result.now c.in-Some.more m within was item.1 item.2 in
+    let room = tables_room first all now index c.index_mut.result.now c.in-Some.more m within was item.1 item.2 in
     let held : count_held all ≡ count_held c.args.other = ap count_held c.other.view_is in
     let few = c.requires.room in
     record {
-      function = tables_function first all now place c.index_mut.result.now c.in-Some.more same m within was item.1 item.2;
+      function = tables_function first all now index c.index_mut.result.now c.in-Some.more same m within was item.1 item.2;
       room = omega arith;
     }
 
@@ -75,20 +75,20 @@ loop-agg-preserved c =
     let long : into_iter_len c.into_iter-agg-iterator.result.iter ≡ length all = search rules in
     let items = YieldsList-from_enumerate {s = c.into_iter-agg-iterator.result} (YieldsList-from_vec {s = c.into_iter-agg-iterator.result.iter} all starts long) (cc) in
     let t = YieldsList-turn items c.loop-agg.yielded c.loop-agg.agg-iterator c.loop-agg.yielded_by c.next.result c.next.new.self (c.in-Some.agg, c.in-Some.more) c.in-Some.is c.next.ensures.steps in
-    let place = length c.loop-agg.yielded in
-    let item = enumerated all place (c.in-Some.agg, c.in-Some.more) t.0 t.1 in
+    let index = length c.loop-agg.yielded in
+    let item = enumerated all index (c.in-Some.agg, c.in-Some.more) t.0 t.1 in
     let first = c.args.self.now in
     let now = c.loop-agg.self-inside.aggregations.items in
-    let m = subst (λ l. MergingTables first l place now) (sym c.other.view_is) c.loop-agg.invariant.0 in
+    let m = subst (λ l. MergingTables first l index now) (sym c.other.view_is) c.loop-agg.invariant.0 in
     let same = c.requires.functions ∙ ap functions_of (sym c.other.view_is) in
-    let many = tables_length first all now place same m in
-    let within : place < length now = let lt = item.1 in omega arith in
+    let many = tables_length first all now index same m in
+    let within : index < length now = let lt = item.1 in omega arith in
     let was = subst (λ i. c.index_mut.result.now ≡ get_or now i c.index_mut.result.now) item.0 c.index_mut.ensures.value in
-    let next = tables_more first all now place c.index_mut.result.now c.in-Some.more c.merge.new.self m within was item.1 item.2
+    let next = tables_more first all now index c.index_mut.result.now c.in-Some.more c.merge.new.self m within was item.1 item.2
     c.merge.ensures.function c.in_ok-merge.ensures.ok c.merge.ensures.count in (
       subst (λ n. MergingTables first c.args.other n (set now c.in-Some.agg c.merge.new.self)) (sym (length_push c.loop-agg.yielded (c.in-Some.agg, c.in-Some.more)))
-          (subst (λ i. MergingTables first c.args.other (place + 1) (set now i c.merge.new.self)) (sym item.0)
-          (subst (λ l. MergingTables first l (place + 1) (set now place c.merge.new.self)) c.other.view_is next)),
+          (subst (λ i. MergingTables first c.args.other (index + 1) (set now i c.merge.new.self)) (sym item.0)
+          (subst (λ l. MergingTables first l (index + 1) (set now index c.merge.new.self)) c.other.view_is next)),
       c.loop-agg.invariant.1,
     )
 
@@ -110,16 +110,16 @@ invariant_of-self-in_err-merge c =
     let long : into_iter_len c.into_iter-agg-iterator.result.iter ≡ length all = search rules in
     let items = YieldsList-from_enumerate {s = c.into_iter-agg-iterator.result} (YieldsList-from_vec {s = c.into_iter-agg-iterator.result.iter} all starts long) (cc) in
     let t = YieldsList-turn items c.loop-agg.yielded c.loop-agg.agg-iterator c.loop-agg.yielded_by c.next.result c.next.new.self (c.in-Some.agg, c.in-Some.more) c.in-Some.is c.next.ensures.steps in
-    let place = length c.loop-agg.yielded in
-    let item = enumerated all place (c.in-Some.agg, c.in-Some.more) t.0 t.1 in
+    let index = length c.loop-agg.yielded in
+    let item = enumerated all index (c.in-Some.agg, c.in-Some.more) t.0 t.1 in
     let first = c.args.self.now in
     let now = c.loop-agg.self-inside.aggregations.items in
-    let m = subst (λ l. MergingTables first l place now) (sym c.other.view_is) c.loop-agg.invariant.0 in
+    let m = subst (λ l. MergingTables first l index now) (sym c.other.view_is) c.loop-agg.invariant.0 in
     let same = c.requires.functions ∙ ap functions_of (sym c.other.view_is) in
-    let many = tables_length first all now place same m in
-    let within : place < length now = let lt = item.1 in omega arith in
+    let many = tables_length first all now index same m in
+    let within : index < length now = let lt = item.1 in omega arith in
     let was = subst (λ i. c.index_mut.result.now ≡ get_or now i c.index_mut.result.now) item.0 c.index_mut.ensures.value in
-    let both = tables_set first all now place c.index_mut.result.now c.in-Some.more c.merge.new.self m within was item.1 item.2 c.merge.ensures.function c.merge.ensures.count in
+    let both = tables_set first all now index c.index_mut.result.now c.in-Some.more c.merge.new.self m within was item.1 item.2 c.merge.ensures.function c.merge.ensures.count in
     let held : count_held all ≡ count_held c.args.other = ap count_held c.other.view_is in
     let few = c.requires.room in
     let sum = both.1 in
@@ -132,16 +132,16 @@ returns-in_err-merge-clause-functions c =
     let long : into_iter_len c.into_iter-agg-iterator.result.iter ≡ length all = search rules in
     let items = YieldsList-from_enumerate {s = c.into_iter-agg-iterator.result} (YieldsList-from_vec {s = c.into_iter-agg-iterator.result.iter} all starts long) (cc) in
     let t = YieldsList-turn items c.loop-agg.yielded c.loop-agg.agg-iterator c.loop-agg.yielded_by c.next.result c.next.new.self (c.in-Some.agg, c.in-Some.more) c.in-Some.is c.next.ensures.steps in
-    let place = length c.loop-agg.yielded in
-    let item = enumerated all place (c.in-Some.agg, c.in-Some.more) t.0 t.1 in
+    let index = length c.loop-agg.yielded in
+    let item = enumerated all index (c.in-Some.agg, c.in-Some.more) t.0 t.1 in
     let first = c.args.self.now in
     let now = c.loop-agg.self-inside.aggregations.items in
-    let m = subst (λ l. MergingTables first l place now) (sym c.other.view_is) c.loop-agg.invariant.0 in
+    let m = subst (λ l. MergingTables first l index now) (sym c.other.view_is) c.loop-agg.invariant.0 in
     let same = c.requires.functions ∙ ap functions_of (sym c.other.view_is) in
-    let many = tables_length first all now place same m in
-    let within : place < length now = let lt = item.1 in omega arith in
+    let many = tables_length first all now index same m in
+    let within : index < length now = let lt = item.1 in omega arith in
     let was = subst (λ i. c.index_mut.result.now ≡ get_or now i c.index_mut.result.now) item.0 c.index_mut.ensures.value in
-    let both = tables_set first all now place c.index_mut.result.now c.in-Some.more c.merge.new.self m within was item.1 item.2 c.merge.ensures.function c.merge.ensures.count in
+    let both = tables_set first all now index c.index_mut.result.now c.in-Some.more c.merge.new.self m within was item.1 item.2 c.merge.ensures.function c.merge.ensures.count in
     subst (λ i. functions_of (set now i c.merge.new.self) ≡ functions_of first) (sym item.0) both.0
 
 pub returns-in_err-merge-clause-held : goal.returns-in_err-merge-clause-held
@@ -151,16 +151,16 @@ returns-in_err-merge-clause-held c =
     let long : into_iter_len c.into_iter-agg-iterator.result.iter ≡ length all = search rules in
     let items = YieldsList-from_enumerate {s = c.into_iter-agg-iterator.result} (YieldsList-from_vec {s = c.into_iter-agg-iterator.result.iter} all starts long) (cc) in
     let t = YieldsList-turn items c.loop-agg.yielded c.loop-agg.agg-iterator c.loop-agg.yielded_by c.next.result c.next.new.self (c.in-Some.agg, c.in-Some.more) c.in-Some.is c.next.ensures.steps in
-    let place = length c.loop-agg.yielded in
-    let item = enumerated all place (c.in-Some.agg, c.in-Some.more) t.0 t.1 in
+    let index = length c.loop-agg.yielded in
+    let item = enumerated all index (c.in-Some.agg, c.in-Some.more) t.0 t.1 in
     let first = c.args.self.now in
     let now = c.loop-agg.self-inside.aggregations.items in
-    let m = subst (λ l. MergingTables first l place now) (sym c.other.view_is) c.loop-agg.invariant.0 in
+    let m = subst (λ l. MergingTables first l index now) (sym c.other.view_is) c.loop-agg.invariant.0 in
     let same = c.requires.functions ∙ ap functions_of (sym c.other.view_is) in
-    let many = tables_length first all now place same m in
-    let within : place < length now = let lt = item.1 in omega arith in
+    let many = tables_length first all now index same m in
+    let within : index < length now = let lt = item.1 in omega arith in
     let was = subst (λ i. c.index_mut.result.now ≡ get_or now i c.index_mut.result.now) item.0 c.index_mut.ensures.value in
-    let both = tables_set first all now place c.index_mut.result.now c.in-Some.more c.merge.new.self m within was item.1 item.2 c.merge.ensures.function c.merge.ensures.count in
+    let both = tables_set first all now index c.index_mut.result.now c.in-Some.more c.merge.new.self m within was item.1 item.2 c.merge.ensures.function c.merge.ensures.count in
     let held : count_held all ≡ count_held c.args.other = ap count_held c.other.view_is in
     let sum = both.1 in
     subst (λ i. count_held (set now i c.merge.new.self) ≤ count_held first + count_held c.args.other) (sym item.0) (omega arith)

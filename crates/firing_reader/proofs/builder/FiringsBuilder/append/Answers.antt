@@ -1,7 +1,7 @@
 use Rattle.std.proofs.Common.{map, ◌≡◌, ◌<◌, ◌^◌, ◌++◌, length}
 use Rattle.firings.specs.Units.{owner_in, probe_in}
 use Rattle.firing_reader.proofs.Moved.{all_movable, appended_in, appended_same}
-use Rattle.firing_reader.proofs.Shared.{seen_extends, seen_places}
+use Rattle.firing_reader.proofs.Shared.{seen_extends, seen_indices}
 use Rattle.firing_reader.proofs.builder.FiringsBuilder.append.Goals as goal
 
 pub add_rows-requires : goal.add_rows-requires
@@ -10,33 +10,33 @@ add_rows-requires c =
     let other = c.others.inside in
     let both : c.add_arguments.new.all.items ≡ own ++ other.args.items = rw (← c.deref.ensures.value) c.in_ok-shift.ensures.args in
     let few : length (own ++ other.args.items) < 2 ^ 28 = rw both at c.in_ok-shift.ensures.few in
-    let owners = seen_places owner_in c.places_of.new.self c.in_ok-owner_places.owner_places.items other.owners c.in_ok-owner_places.ensures.places in
-    let probes = seen_places probe_in c.places_of-2.new.self c.in_ok-probe_places.probe_places.items other.probes c.in_ok-probe_places.ensures.places in
-    rw (c.deref-3.ensures.value, c.deref-4.ensures.value, c.deref-2.ensures.value, c.in_ok-shift.ensures.place)
-    (all_movable (map owner_in c.places_of.new.self) (map owner_in other.owners) c.in_ok-owner_places.owner_places.items (map probe_in c.places_of-2.new.self) (map probe_in other.probes)
-    c.in_ok-probe_places.probe_places.items own other.args.items other.rows.items owners probes few c.others.invariant)
+    let owners = seen_indices owner_in c.indices_of.new.self c.in_ok-owner_indices.owner_indices.items other.owners c.in_ok-owner_indices.ensures.indices in
+    let probes = seen_indices probe_in c.indices_of-2.new.self c.in_ok-probe_indices.probe_indices.items other.probes c.in_ok-probe_indices.ensures.indices in
+    rw (c.deref-3.ensures.value, c.deref-4.ensures.value, c.deref-2.ensures.value, c.in_ok-shift.ensures.index)
+    (all_movable (map owner_in c.indices_of.new.self) (map owner_in other.owners) c.in_ok-owner_indices.owner_indices.items (map probe_in c.indices_of-2.new.self) (map probe_in other.probes)
+    c.in_ok-probe_indices.probe_indices.items own other.args.items other.rows.items owners probes few c.others.invariant)
 
 pub invariant_of-self-2 : goal.invariant_of-self-2
 invariant_of-self-2 c =
     let own = c.self.inside in
     let other = c.others.inside in
     let both : c.add_arguments.new.all.items ≡ own.args.items ++ other.args.items = rw (← c.deref.ensures.value) c.in_ok-shift.ensures.args in
-    let owners = seen_places owner_in c.places_of.new.self c.in_ok-owner_places.owner_places.items other.owners c.in_ok-owner_places.ensures.places in
-    let probes = seen_places probe_in c.places_of-2.new.self c.in_ok-probe_places.probe_places.items other.probes c.in_ok-probe_places.ensures.places in
-    appended_in c.add_rows.result (map owner_in own.owners) (map owner_in c.places_of.new.self) (map owner_in other.owners) c.in_ok-owner_places.owner_places.items (map probe_in own.probes)
-    (map probe_in c.places_of-2.new.self) (map probe_in other.probes) c.in_ok-probe_places.probe_places.items own.args.items other.args.items c.add_arguments.new.all.items own.rows.items other.rows.items
-    c.add_rows.new.rows.items (seen_extends owner_in own.owners c.places_of.new.self c.places_of.ensures.grows) (seen_extends probe_in own.probes c.places_of-2.new.self c.places_of-2.ensures.grows) owners probes both
-    c.self.invariant c.others.invariant (rw (c.deref-3.ensures.value, c.deref-4.ensures.value, c.deref-2.ensures.value, c.in_ok-shift.ensures.place) at c.add_rows.ensures)
+    let owners = seen_indices owner_in c.indices_of.new.self c.in_ok-owner_indices.owner_indices.items other.owners c.in_ok-owner_indices.ensures.indices in
+    let probes = seen_indices probe_in c.indices_of-2.new.self c.in_ok-probe_indices.probe_indices.items other.probes c.in_ok-probe_indices.ensures.indices in
+    appended_in c.add_rows.result (map owner_in own.owners) (map owner_in c.indices_of.new.self) (map owner_in other.owners) c.in_ok-owner_indices.owner_indices.items (map probe_in own.probes)
+    (map probe_in c.indices_of-2.new.self) (map probe_in other.probes) c.in_ok-probe_indices.probe_indices.items own.args.items other.args.items c.add_arguments.new.all.items own.rows.items other.rows.items
+    c.add_rows.new.rows.items (seen_extends owner_in own.owners c.indices_of.new.self c.indices_of.ensures.grows) (seen_extends probe_in own.probes c.indices_of-2.new.self c.indices_of-2.ensures.grows) owners probes both
+    c.self.invariant c.others.invariant (rw (c.deref-3.ensures.value, c.deref-4.ensures.value, c.deref-2.ensures.value, c.in_ok-shift.ensures.index) at c.add_rows.ensures)
 
 pub returns : goal.returns
 returns c =
     let own = c.self.inside in
     let other = c.others.inside in
     let both : c.add_arguments.new.all.items ≡ own.args.items ++ other.args.items = rw (← c.deref.ensures.value) c.in_ok-shift.ensures.args in
-    let owners = seen_places owner_in c.places_of.new.self c.in_ok-owner_places.owner_places.items other.owners c.in_ok-owner_places.ensures.places in
-    let probes = seen_places probe_in c.places_of-2.new.self c.in_ok-probe_places.probe_places.items other.probes c.in_ok-probe_places.ensures.places in
+    let owners = seen_indices owner_in c.indices_of.new.self c.in_ok-owner_indices.owner_indices.items other.owners c.in_ok-owner_indices.ensures.indices in
+    let probes = seen_indices probe_in c.indices_of-2.new.self c.in_ok-probe_indices.probe_indices.items other.probes c.in_ok-probe_indices.ensures.indices in
     rw (← c.self.view_is, ← c.others.view_is)
-    (appended_same c.add_rows.result (map owner_in own.owners) (map owner_in c.places_of.new.self) (map owner_in other.owners) c.in_ok-owner_places.owner_places.items (map probe_in own.probes)
-    (map probe_in c.places_of-2.new.self) (map probe_in other.probes) c.in_ok-probe_places.probe_places.items own.args.items other.args.items c.add_arguments.new.all.items own.rows.items other.rows.items
-    c.add_rows.new.rows.items (seen_extends owner_in own.owners c.places_of.new.self c.places_of.ensures.grows) (seen_extends probe_in own.probes c.places_of-2.new.self c.places_of-2.ensures.grows) owners probes both
-    c.self.invariant c.others.invariant (rw (c.deref-3.ensures.value, c.deref-4.ensures.value, c.deref-2.ensures.value, c.in_ok-shift.ensures.place) at c.add_rows.ensures))
+    (appended_same c.add_rows.result (map owner_in own.owners) (map owner_in c.indices_of.new.self) (map owner_in other.owners) c.in_ok-owner_indices.owner_indices.items (map probe_in own.probes)
+    (map probe_in c.indices_of-2.new.self) (map probe_in other.probes) c.in_ok-probe_indices.probe_indices.items own.args.items other.args.items c.add_arguments.new.all.items own.rows.items other.rows.items
+    c.add_rows.new.rows.items (seen_extends owner_in own.owners c.indices_of.new.self c.indices_of.ensures.grows) (seen_extends probe_in own.probes c.indices_of-2.new.self c.indices_of-2.ensures.grows) owners probes both
+    c.self.invariant c.others.invariant (rw (c.deref-3.ensures.value, c.deref-4.ensures.value, c.deref-2.ensures.value, c.in_ok-shift.ensures.index) at c.add_rows.ensures))

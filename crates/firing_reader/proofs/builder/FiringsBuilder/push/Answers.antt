@@ -40,7 +40,7 @@ invariant_of-self-2 c =
     let r : Row = record { number = f.number; time = f.time; cpu = f.cpu; owner = c.in-Some.owner; probe = c.in-Some-keep_probe.probe; given = c.in-Some-keep_arguments.given } in
     let o : Owner = owner_of f in
     let p : Probe = probe_of f in
-    let kept = row_in q u b r o p c.in-Some.ensures.place c.in-Some-keep_probe.ensures.place c.in-Some-keep_arguments.ensures.inside in
+    let kept = row_in q u b r o p c.in-Some.ensures.index c.in-Some-keep_probe.ensures.index c.in-Some-keep_arguments.ensures.inside in
     elim c.if-push_row.branch [
       | then-push_row w ↦ rw (c.push_row.ensures.pushed w.if-push_row.true) (rw (to_z-of_z w32 f.cpu (search rules)) (pushed_in (map owner_in i.owners) q (map probe_in i.probes) u i.args.items b i.rows.items r c.keep_owner.ensures.grows c.keep_probe.ensures.grows c.keep_arguments.ensures.grows c.self.invariant kept))
       | else-push_row w ↦ rw (c.push_row.ensures.refused w.if-push_row.false) (rows_more (map owner_in i.owners) q (map probe_in i.probes) u i.args.items b i.rows.items c.keep_owner.ensures.grows c.keep_probe.ensures.grows c.keep_arguments.ensures.grows c.self.invariant)
@@ -55,7 +55,7 @@ returns c =
     let same = seen_all (map owner_in i.owners) q (map probe_in i.probes) u i.args.items b i.rows.items c.keep_owner.ensures.grows c.keep_probe.ensures.grows c.keep_arguments.ensures.grows c.self.invariant ∙ c.self.view_is in
     let f = c.args.firing.now in
     let r : Row = record { number = f.number; time = f.time; cpu = f.cpu; owner = c.in-Some.owner; probe = c.in-Some-keep_probe.probe; given = c.in-Some-keep_arguments.given } in
-    let more = row_stored q u b i.rows.items c.args.self.now r f same c.in-Some.ensures.place c.in-Some-keep_probe.ensures.place (c.in-Some-keep_arguments.ensures.args ∙ c.stored.ensures.ten) refl refl refl in
+    let more = row_stored q u b i.rows.items c.args.self.now r f same c.in-Some.ensures.index c.in-Some-keep_probe.ensures.index (c.in-Some-keep_arguments.ensures.args ∙ c.stored.ensures.ten) refl refl refl in
     elim c.if-push_row.branch [
       | then-push_row w ↦ rw w.result-is (rw (c.push_row.ensures.pushed w.if-push_row.true) (rw (to_z-of_z w32 f.cpu (search rules)) more))
       | else-push_row w ↦ rw w.result-is (rw (c.push_row.ensures.refused w.if-push_row.false) same)

@@ -12,8 +12,8 @@ use Rattle.replay_core.proofs.Turning.{Continues, continues_all, continues_start
 use Rattle.shard_queue.proofs.Lists.{all_head, all_tail}
 use Rattle.replay_core.proofs.lanes.clause_runs.run_clauses.Goals as goal
 
-pub loop-place-init : goal.loop-place-init
-loop-place-init g c =
+pub loop-index-init : goal.loop-index-init
+loop-index-init g c =
     let f = c.args.state.now.firing.now in
     let start = variables_in c.args.state.now in
     let piece = piece_seen c.args.piece.now in
@@ -25,84 +25,84 @@ loop-place-init g c =
       held = omega (arith, long);
       stays = (refl, refl);
       all_made = λ slots cs mean fit good.
-          (good, subst (λ (l : List ℕ). Continues f cs c.args.places.now l start start piece piece false) (sym c.all-left.ensures) (continues_start f cs c.args.places.now start piece));
+          (good, subst (λ (l : List ℕ). Continues f cs c.args.indices.now l start start piece piece false) (sym c.all-left.ensures) (continues_start f cs c.args.indices.now start piece));
     }
 
-pub bounds-clauses-place : goal.bounds-clauses-place
-bounds-clauses-place g c =
-    all_head (λ p. p < length c.args.clauses.now) c.loop-place.left c.in-Some.place c.next.new.self c.loop-place.invariant.there c.in-Some.ensures
+pub bounds-clauses-index : goal.bounds-clauses-index
+bounds-clauses-index g c =
+    all_head (λ p. p < length c.args.clauses.now) c.loop-index.left c.in-Some.index c.next.new.self c.loop-index.invariant.there c.in-Some.ensures
 
-pub run-requires-clause-places : goal.run-requires-clause-places
-run-requires-clause-places g c =
+pub run-requires-clause-indices : goal.run-requires-clause-indices
+run-requires-clause-indices g c =
     let n = length (functions_of c.args.piece.now.table) in
-    let clause = c.index-clauses-place.result in
-    let inside = all_head (λ p. p < length c.args.clauses.now) c.loop-place.left c.in-Some.place c.next.new.self c.loop-place.invariant.there c.in-Some.ensures in
-    let named = subst (λ x. g.C.Clause.places x ≤ n) (sym c.index-clauses-place.is) (c.requires.named c.in-Some.place clause inside) in
-    let same = ap length c.loop-place.invariant.functions in
+    let clause = c.index-clauses-index.result in
+    let inside = all_head (λ p. p < length c.args.clauses.now) c.loop-index.left c.in-Some.index c.next.new.self c.loop-index.invariant.there c.in-Some.ensures in
+    let named = subst (λ x. g.C.Clause.indices x ≤ n) (sym c.index-clauses-index.is) (c.requires.named c.in-Some.index clause inside) in
+    let same = ap length c.loop-index.invariant.functions in
     omega (arith, named, same)
 
 pub run-requires-clause-taken : goal.run-requires-clause-taken
 run-requires-clause-taken g c =
-    let i = c.loop-place.invariant in
-    taken_still c.args.state.now c.loop-place.state c.args.piece.now c.loop-place.piece i.stays i.taken c.requires.taken
+    let i = c.loop-index.invariant in
+    taken_still c.args.state.now c.loop-index.state c.args.piece.now c.loop-index.piece i.stays i.taken c.requires.taken
 
 pub run-requires-clause-room : goal.run-requires-clause-room
 run-requires-clause-room g c =
-    let clause = c.index-clauses-place.result in
-    let inside = all_head (λ p. p < length c.args.clauses.now) c.loop-place.left c.in-Some.place c.next.new.self c.loop-place.invariant.there c.in-Some.ensures in
-    let most : g.C.Clause.most clause ≤ 65536 = subst (λ x. g.C.Clause.most x ≤ 65536) (sym c.index-clauses-place.is) (c.requires.few c.in-Some.place clause inside) in
+    let clause = c.index-clauses-index.result in
+    let inside = all_head (λ p. p < length c.args.clauses.now) c.loop-index.left c.in-Some.index c.next.new.self c.loop-index.invariant.there c.in-Some.ensures in
+    let most : g.C.Clause.most clause ≤ 65536 = subst (λ x. g.C.Clause.most x ≤ 65536) (sym c.index-clauses-index.is) (c.requires.few c.in-Some.index clause inside) in
     let left = ap length c.in-Some.ensures in
-    let held = c.loop-place.invariant.held in
+    let held = c.loop-index.invariant.held in
     let room = c.requires.room in
     omega (arith, most, left, held, room)
 
-pub loop-place-preserved : goal.loop-place-preserved
-loop-place-preserved g c =
+pub loop-index-preserved : goal.loop-index-preserved
+loop-index-preserved g c =
     let f = c.args.state.now.firing.now in
     let clauses = c.args.clauses.now in
-    let place = c.in-Some.place in
+    let index = c.in-Some.index in
     let left = c.next.new.self in
-    let clause = c.index-clauses-place.result in
-    let i = c.loop-place.invariant in
+    let clause = c.index-clauses-index.result in
+    let i = c.loop-index.invariant in
     let before = variables_in c.args.state.now in
-    let now = variables_in c.loop-place.state in
+    let now = variables_in c.loop-index.state in
     let after = variables_in c.run.new.state in
     let old = piece_seen c.args.piece.now in
-    let piece = piece_seen c.loop-place.piece in
+    let piece = piece_seen c.loop-index.piece in
     let next = piece_seen c.run.new.piece in
     let exited = c.in_ok-exited.exited in
     let cut = c.in-Some.ensures in
-    let inside = all_head (λ p. p < length clauses) c.loop-place.left place left i.there cut in
-    let most : g.C.Clause.most clause ≤ 65536 = subst (λ x. g.C.Clause.most x ≤ 65536) (sym c.index-clauses-place.is) (c.requires.few place clause inside) in
+    let inside = all_head (λ p. p < length clauses) c.loop-index.left index left i.there cut in
+    let most : g.C.Clause.most clause ≤ 65536 = subst (λ x. g.C.Clause.most x ≤ 65536) (sym c.index-clauses-index.is) (c.requires.few index clause inside) in
     let long = ap length cut in
-    let here : c.loop-place.state.firing.now ≡ f = ap (λ s. s.now) i.stays.0 in
+    let here : c.loop-index.state.firing.now ≡ f = ap (λ s. s.now) i.stays.0 in
     let held = c.run.ensures.held in
     let before_held = i.held in
     record {
-      there = all_tail (λ p. p < length clauses) c.loop-place.left place left i.there cut;
+      there = all_tail (λ p. p < length clauses) c.loop-index.left index left i.there cut;
       functions = c.run.ensures.functions ∙ i.functions;
       taken = c.run.ensures.taken ∙ i.taken;
       held = omega (arith, most, held, before_held, long);
-      stays = stays_then c.args.state.now c.loop-place.state c.run.new.state i.stays c.run.ensures.state;
+      stays = stays_then c.args.state.now c.loop-index.state c.run.new.state i.stays c.run.ensures.state;
       all_made = λ slots cs mean fit good.
           let so_far = i.all_made slots cs mean fit good in
-          turn_more f cs g.C.Clause.means slots clauses clause c.args.places.now left place before now after old piece next c.loop-place.exits exited
-          mean inside c.index-clauses-place.is fit
-          (λ m meant. subst (λ (f : Firing). NotesRun f.number (run_of f (place + 1) m now) piece next after exited) here
+          turn_more f cs g.C.Clause.means slots clauses clause c.args.indices.now left index before now after old piece next c.loop-index.exits exited
+          mean inside c.index-clauses-index.is fit
+          (λ m meant. subst (λ (f : Firing). NotesRun f.number (run_of f (index + 1) m now) piece next after exited) here
           (c.in_ok-exited.ensures.run slots m meant (subst HasTypedBuiltIns (sym here) fit) so_far.0))
-          (so_far.0, subst (λ (l : List ℕ). Continues f cs c.args.places.now l before now old piece c.loop-place.exits) cut so_far.1);
+          (so_far.0, subst (λ (l : List ℕ). Continues f cs c.args.indices.now l before now old piece c.loop-index.exits) cut so_far.1);
     }
 
 pub returns-clause-notes : goal.returns-clause-notes
 returns-clause-notes g c = λ slots cs mean fit good.
     let f = c.args.state.now.firing.now in
-    continues_all f cs _ _ _ _ _ c.loop-place.exits
-    (subst (λ (l : List ℕ). Continues f cs c.args.places.now l (variables_in c.args.state.now) (variables_in c.loop-place.state) (piece_seen c.args.piece.now) (piece_seen c.loop-place.piece) c.loop-place.exits)
-    c.in_default.ensures (c.loop-place.invariant.all_made slots cs mean fit good).1)
+    continues_all f cs _ _ _ _ _ c.loop-index.exits
+    (subst (λ (l : List ℕ). Continues f cs c.args.indices.now l (variables_in c.args.state.now) (variables_in c.loop-index.state) (piece_seen c.args.piece.now) (piece_seen c.loop-index.piece) c.loop-index.exits)
+    c.in_default.ensures (c.loop-index.invariant.all_made slots cs mean fit good).1)
 
 pub returns-clause-exits : goal.returns-clause-exits
 returns-clause-exits g c = λ slots cs mean fit good.
     let f = c.args.state.now.firing.now in
-    exits_all f cs _ _ _ _ _ c.loop-place.exits
-    (subst (λ (l : List ℕ). Continues f cs c.args.places.now l (variables_in c.args.state.now) (variables_in c.loop-place.state) (piece_seen c.args.piece.now) (piece_seen c.loop-place.piece) c.loop-place.exits)
-    c.in_default.ensures (c.loop-place.invariant.all_made slots cs mean fit good).1)
+    exits_all f cs _ _ _ _ _ c.loop-index.exits
+    (subst (λ (l : List ℕ). Continues f cs c.args.indices.now l (variables_in c.args.state.now) (variables_in c.loop-index.state) (piece_seen c.args.piece.now) (piece_seen c.loop-index.piece) c.loop-index.exits)
+    c.in_default.ensures (c.loop-index.invariant.all_made slots cs mean fit good).1)

@@ -6,7 +6,7 @@ use Rattle.std.proofs.lemmas.Result.{IfOk-weaker}
 use Rattle.d_types.specs.Held.{slots_of}
 use Rattle.dif_codegen.specs.Meaning.{IsSameClause}
 use Rattle.dif_codegen.specs.Programs.{action_code}
-use Rattle.replay_core.specs.Bounds.{places_among}
+use Rattle.replay_core.specs.Bounds.{indices_among}
 use Rattle.replay_core.proofs.ProgramLemmas.{program_few, program_few_probes, program_named}
 use Rattle.replay_core.proofs.TreeLemmas.{script_keeps}
 use Rattle.replay_core.proofs.lanes.compiled.dif_lane.Goals as goal
@@ -17,8 +17,8 @@ new-requires-clause-named c =
     let p = c.args.program.now in
     let many : length c.in_ok-functions.functions.items ≡ length m.aggregations =
     ap length (c.in_ok-functions.ensures.items ∙ c.aggregations.ensures ∙ compiled.program.have_functions) ∙ length-map m.aggregations (λ a. a.function) in
-    subst (λ l. All (λ x. places_among (map action_code x.actions.items) ≤ length c.in_ok-functions.functions.items) l) (sym c.clauses.ensures)
-    (subst (λ n. All (λ x. places_among (map action_code x.actions.items) ≤ n) p.clauses.items) (sym many) (program_named m compiled.typed p.clauses.items compiled.program.do_the_same))
+    subst (λ l. All (λ x. indices_among (map action_code x.actions.items) ≤ length c.in_ok-functions.functions.items) l) (sym c.clauses.ensures)
+    (subst (λ n. All (λ x. indices_among (map action_code x.actions.items) ≤ n) p.clauses.items) (sym many) (program_named m compiled.typed p.clauses.items compiled.program.do_the_same))
 
 pub new-requires-clause-few : goal.new-requires-clause-few
 new-requires-clause-few c =

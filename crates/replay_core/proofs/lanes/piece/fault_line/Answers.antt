@@ -12,7 +12,7 @@ five_parts a b c d e l m n o p is_l is_m is_n is_o is_p =
 pub returns : goal.returns
 returns c =
     c.from.ensures
-    ∙ five_parts (codes "error: firing ") (decimal c.args.number) (codes " clause ") (decimal c.args.place) (codes ": divide-by-zero\n") _ _ _ _ _
+    ∙ five_parts (codes "error: firing ") (decimal c.args.number) (codes " clause ") (decimal c.args.index) (codes ": divide-by-zero\n") _ _ _ _ _
     c.in_ok-line.ensures.items
     (c.in_ok-extend_from_slice.ensures.items ∙ ap (λ x. c.in_ok-line.line.items ++ x) (c.as_bytes.ensures.value ∙ c.format.ensures.text))
     c.in_ok-extend_from_slice-2.ensures.items

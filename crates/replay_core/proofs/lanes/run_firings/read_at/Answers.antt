@@ -5,12 +5,12 @@ use Rattle.replay_core.proofs.lanes.run_firings.read_at.Goals as goal
 
 pub returns-in-Some-clause-ranges : goal.returns-in-Some-clause-ranges
 returns-in-Some-clause-ranges c =
-    let found : Some (row_before c.args.trace.now c.args.place) ≡ Some (Some c.in-Some.firing) = sym c.requires.row ∙ c.in-Some.ensures in
-    let is : row_before c.args.trace.now c.args.place ≡ Some c.in-Some.firing = cc in
-    row_ranges c.args.trace.now c.args.place c.in-Some.firing c.requires.trace is
+    let found : Some (row_before c.args.trace.now c.args.index) ≡ Some (Some c.in-Some.firing) = sym c.requires.row ∙ c.in-Some.ensures in
+    let is : row_before c.args.trace.now c.args.index ≡ Some c.in-Some.firing = cc in
+    row_ranges c.args.trace.now c.args.index c.in-Some.firing c.requires.trace is
 
 pub returns-in-Some-clause-firing : goal.returns-in-Some-clause-firing
 returns-in-Some-clause-firing c =
-    let found : Some (row_before c.args.trace.now c.args.place) ≡ Some (Some c.in-Some.firing) = sym c.requires.row ∙ c.in-Some.ensures in
-    let is : row_before c.args.trace.now c.args.place ≡ Some c.in-Some.firing = cc in
-    row_at c.args.trace.now c.args.place c.in-Some.firing is
+    let found : Some (row_before c.args.trace.now c.args.index) ≡ Some (Some c.in-Some.firing) = sym c.requires.row ∙ c.in-Some.ensures in
+    let is : row_before c.args.trace.now c.args.index ≡ Some c.in-Some.firing = cc in
+    row_at c.args.trace.now c.args.index c.in-Some.firing is

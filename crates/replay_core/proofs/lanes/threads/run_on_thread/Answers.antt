@@ -40,14 +40,14 @@ returns-then-is_empty-clause-run g c = λ slots cs mean fit good.
     let threads = threads_in old in
     let piece = c.args.piece.now in
     let start = at_start (threads f.thread) in
-    let none = none_turn f cs c.args.due.now.places.now start (sym c.is_empty.ensures ∙ c.if-is_empty.true) in
+    let none = none_turn f cs c.args.due.now.indices.now start (sym c.is_empty.ensures ∙ c.if-is_empty.true) in
     subst (λ (made : Made). RunsOn f made threads threads piece piece false) (sym none)
     (record { notes = notes_nothing f.number start (piece_seen piece); threads = own_stays old f.thread; exited = refl })
 
 pub returns-clause-run : goal.returns-clause-run
 returns-clause-run g c =
     let f = c.args.due.now.firing.now in
-    let places = c.args.due.now.places.now in
+    let indices = c.args.due.now.indices.now in
     let piece = c.args.piece.now in
     let after = c.run_on_tables.new.piece in
     let kept = c.index_for.new.threads in
@@ -64,9 +64,9 @@ returns-clause-run g c =
     IfOk-weaker c.run_on_tables.result _ _ (λ exits (noted, told) slots cs mean fit good.
     let typed = typed_start slots _ _ start (subst (λ (t : Threads). AreTypedOwn slots (t f.thread)) (sym same) good) in
     let made = noted slots cs mean fit typed in
-    subst (λ (t : Threads). RunsOn f (made_on f cs places t) t (threads_in (with_value_at kept i new).entries) piece after exits) same (record {
-      notes = subst (λ v. Notes f.number (all_made f cs places v) (piece_seen piece) (piece_seen after)) start made.0;
-      threads = thread_written kept.entries (with_value_at kept i new).entries f.thread new (made_on f cs places (threads_in kept.entries)) puts.0 (made.1 ∙ ap (λ v. (all_made f cs places v).variables) start);
-      exited = told slots cs mean fit typed ∙ ap (λ v. is_some (all_made f cs places v).exit) start;
+    subst (λ (t : Threads). RunsOn f (made_on f cs indices t) t (threads_in (with_value_at kept i new).entries) piece after exits) same (record {
+      notes = subst (λ v. Notes f.number (all_made f cs indices v) (piece_seen piece) (piece_seen after)) start made.0;
+      threads = thread_written kept.entries (with_value_at kept i new).entries f.thread new (made_on f cs indices (threads_in kept.entries)) puts.0 (made.1 ∙ ap (λ v. (all_made f cs indices v).variables) start);
+      exited = told slots cs mean fit typed ∙ ap (λ v. is_some (all_made f cs indices v).exit) start;
     }))
     (both _ _ c.run_on_tables.result c.run_on_tables.ensures.notes c.run_on_tables.ensures.exits)

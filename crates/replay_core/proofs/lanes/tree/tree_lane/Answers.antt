@@ -6,7 +6,7 @@ use Rattle.std.specs.List.{AllZip}
 use Rattle.d_types.specs.Sizes.{statement_count}
 use Rattle.d_types.specs.Typed.{meant_of}
 use Rattle.d_types.specs.TypedScripts.{typed_script_of}
-use Rattle.replay_core.specs.Bounds.{places_in}
+use Rattle.replay_core.specs.Bounds.{indices_in}
 use Rattle.replay_core.proofs.TreeLemmas.{all_few, all_named, few_probes, functions_same, script_keeps}
 use Rattle.replay_core.proofs.TreeLemmas.{trees_mean}
 use Rattle.replay_core.proofs.lanes.tree.tree_lane.Goals as goal
@@ -16,8 +16,8 @@ new-requires-clause-named c =
     let s = c.args.script.now in
     let many : length c.in_ok-functions.functions.items ≡ length s.aggregations.items =
     ap length c.in_ok-functions.ensures ∙ length-map s.aggregations.items (λ a. a.function) in
-    subst (λ l. All (λ x. places_in (meant_of x) ≤ length c.in_ok-functions.functions.items) l) (sym c.clauses.ensures)
-    (subst (λ n. All (λ x. places_in (meant_of x) ≤ n) s.clauses.items) (sym many) (all_named s.clauses.items s.aggregations.items s.slots.items s.typed))
+    subst (λ l. All (λ x. indices_in (meant_of x) ≤ length c.in_ok-functions.functions.items) l) (sym c.clauses.ensures)
+    (subst (λ n. All (λ x. indices_in (meant_of x) ≤ n) s.clauses.items) (sym many) (all_named s.clauses.items s.aggregations.items s.slots.items s.typed))
 
 pub new-requires-clause-few : goal.new-requires-clause-few
 new-requires-clause-few c =

@@ -21,7 +21,7 @@ returns-in-Err-DivideByZero-clause-run g c =
     let rest = statements_by by (map g.S.Statement.form c.args.statements.now) in
     let vars = variables_in c.args.state.now in
     let after = variables_in c.evaluate_word.new.state in
-    let line = fault_line f.number c.args.place in
+    let line = fault_line f.number c.args.index in
     let predicate = c.in-Some.predicate in
     let faults = subst (λ r. Returns (number_outcome (by.value predicate vars)) r after)
     (c.in-Err-DivideByZero.is ∙ ap (λ e. Err e) c.in-Err-DivideByZero.field-0-is) c.evaluate_word.ensures.1 in
@@ -32,5 +32,5 @@ returns-in-Err-DivideByZero-clause-run g c =
     let before : c.len-texts.result ≡ length c.args.piece.now.events.items = search rules in
     subst (λ m. NotesRun f.number m (piece_seen c.args.piece.now) (piece_seen c.note_fault.new.self) after false) (sym run)
     (predicate_faults f.number line (piece_seen c.args.piece.now) (piece_seen c.note_fault.new.self) after
-    (noted.texts ∙ ap (λ n. take c.len-texts.result c.args.piece.now.events.items ++ (n, fault_line n c.args.place) ∷ []) same
+    (noted.texts ∙ ap (λ n. take c.len-texts.result c.args.piece.now.events.items ++ (n, fault_line n c.args.index) ∷ []) same
     ∙ ap (λ n. take n c.args.piece.now.events.items ++ (f.number, line) ∷ []) before) noted.table noted.taken noted.exit)

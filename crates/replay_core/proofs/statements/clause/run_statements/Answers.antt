@@ -4,19 +4,19 @@ use Rattle.std.proofs.Math.Seq.{drop-cons}
 use Rattle.std.proofs.lemmas.List.{drop_all}
 use Rattle.aggregations.specs.Table.{functions_of}
 use Rattle.d_types.specs.Clauses.{effect_by, fault_line, effect_then, statements_by}
-use Rattle.replay_core.specs.Bounds.{place_in}
+use Rattle.replay_core.specs.Bounds.{index_in}
 use Rattle.replay_core.specs.Steps.Effects.{Performs}
 use Rattle.replay_core.specs.Evaluation.{variables_in}
 use Rattle.replay_core.specs.Seen.{piece_seen}
 use Rattle.replay_core.proofs.EffectLemmas.{SoFar, none_yet, goes_on, faults, ends}
-use Rattle.replay_core.proofs.PlaceLemmas.{place_at}
+use Rattle.replay_core.proofs.IndexLemmas.{index_at}
 use Rattle.replay_core.proofs.StateLemmas.{number_stays, stays_then, taken_still}
 use Rattle.replay_core.proofs.statements.clause.run_statements.Goals as goal
 
-pub perform-requires-clause-place : goal.perform-requires-clause-place
-perform-requires-clause-place g c =
-    let few = place_at g.S.Statement.form (length (functions_of c.args.piece.now.table)) c.args.statements.now c.loop-statement.statement-index c.statement-item.result (search rules) c.requires.places in
-    let at = ap (λ s. place_in (g.S.Statement.form s)) c.statement-item.is in
+pub perform-requires-clause-index : goal.perform-requires-clause-index
+perform-requires-clause-index g c =
+    let few = index_at g.S.Statement.form (length (functions_of c.args.piece.now.table)) c.args.statements.now c.loop-statement.statement-index c.statement-item.result (search rules) c.requires.indices in
+    let at = ap (λ s. index_in (g.S.Statement.form s)) c.statement-item.is in
     let same = ap length c.loop-statement.invariant.functions in
     omega (arith, few, at, same)
 
@@ -85,7 +85,7 @@ returns-in-Err-DivideByZero-clause-run g c =
     let cut : drop i all ≡ item ∷ drop (i + 1) all =
     subst (λ s. drop i all ≡ s ∷ drop (i + 1) all) (sym c.statement-item.is) (rw add-one (drop-cons all i item (search rules))) in
     let is : left ≡ effect_then o go = ap (λ l. statements_by by (map form l) now) cut in
-    let line = fault_line f.number c.args.place in
+    let line = fault_line f.number c.args.index in
     let noted = c.in_ok-note_fault-in-Err-DivideByZero.ensures in
     let stays = stays_then c.args.state.now c.loop-statement.state c.perform.new.state c.loop-statement.invariant.stays c.perform.ensures.effect.0 in
     let same = number_stays c.args.state.now c.perform.new.state stays in
@@ -97,7 +97,7 @@ returns-in-Err-DivideByZero-clause-run g c =
     c.loop-statement.exits c.loop-statement.invariant.so_far is
     (subst (λ r. Performs f.number o (piece_seen c.loop-statement.piece) r (piece_seen c.perform.new.piece) (variables_in c.perform.new.state))
     (c.in-Err-DivideByZero.is ∙ ap (λ e. Err e) c.in-Err-DivideByZero.field-0-is) performs)
-    (noted.texts ∙ ap (λ n. take c.len-before.result c.perform.new.piece.events.items ++ (n, fault_line n c.args.place) ∷ []) same
+    (noted.texts ∙ ap (λ n. take c.len-before.result c.perform.new.piece.events.items ++ (n, fault_line n c.args.index) ∷ []) same
     ∙ ap (λ n. take n c.perform.new.piece.events.items ++ (f.number, line) ∷ []) before) noted.table noted.taken noted.exit
 
 pub returns-clause-run : goal.returns-clause-run
@@ -110,6 +110,6 @@ returns-clause-run g c =
     let now = variables_in c.loop-statement.state in
     let whole = statements_by by (map form all) (variables_in c.args.state.now) in
     let none : drop i all ≡ [] = drop_all i all (omega arith) in
-    ends f.number (fault_line f.number c.args.place) whole (piece_seen c.args.piece.now) (piece_seen c.loop-statement.piece) now c.loop-statement.exits
+    ends f.number (fault_line f.number c.args.index) whole (piece_seen c.args.piece.now) (piece_seen c.loop-statement.piece) now c.loop-statement.exits
     (subst (λ l. SoFar f.number whole (statements_by by (map form l) now) (piece_seen c.args.piece.now) (piece_seen c.loop-statement.piece) c.loop-statement.exits)
     none c.loop-statement.invariant.so_far)

@@ -4,10 +4,10 @@ use Rattle.dif_codegen.specs.Meaning.{key_of_objects}
 use Rattle.replay_core.specs.Evaluation.{Stays, variables_in}
 use Rattle.replay_core.proofs.statements.objects.run_for_key.Given as goal
 
-abbrev pub invariant-loop-place : goal.invariant-loop-place
-invariant-loop-place l = record {
+abbrev pub invariant-loop-index : goal.invariant-loop-index
+invariant-loop-index l = record {
   length : length l.key ≡ length l.objects;
   stays : Stays l.fn.state l.state;
-  parts : with (key_of_objects l.state.firing.now (drop l.place l.objects) (variables_in l.state)) (λ key. Has (take l.place l.key ++ key))
+  parts : with (key_of_objects l.state.firing.now (drop l.index l.objects) (variables_in l.state)) (λ key. Has (take l.index l.key ++ key))
       ≡ key_of_objects l.fn.state.firing.now l.objects (variables_in l.fn.state);
 }

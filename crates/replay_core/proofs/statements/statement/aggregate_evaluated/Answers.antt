@@ -20,11 +20,11 @@ returns-clause-effect g c =
     let between = variables_in c.evaluate_key.new.state in
     let after = variables_in c.evaluate_argument.new.state in
     let fits : FitsSigned w64 c.in_ok-number.number = search rules in
-    let noted = subst (λ y. NotesEffect f.number (ef.Adds c.args.place c.in_ok-key.key y) (piece_seen c.args.piece.now) (piece_seen c.note_contribution.new.self))
+    let noted = subst (λ y. NotesEffect f.number (ef.Adds c.args.index c.in_ok-key.key y) (piece_seen c.args.piece.now) (piece_seen c.note_contribution.new.self))
     (to_z-of_z w64 c.in_ok-number.number fits) (c.in_ok-note_contribution.ensures.notes f.number) in
     let given : argument_by by c.args.argument.now between ≡ Has c.in_ok-number.number after =
     subst (λ s. argument_by (g.X.Expression.by s.now) c.args.argument.now between ≡ Has c.in_ok-number.number after) c.in_ok-key.ensures.0.0 c.in_ok-number.ensures.1 in (
       stays_then c.args.state.now c.evaluate_key.new.state c.evaluate_argument.new.state c.in_ok-key.ensures.0 c.in_ok-number.ensures.0,
-      adds f.number c.args.place (by.key c.args.keys.now vars) (argument_by by c.args.argument.now) c.in_ok-key.key c.in_ok-number.number
+      adds f.number c.args.index (by.key c.args.keys.now vars) (argument_by by c.args.argument.now) c.in_ok-key.key c.in_ok-number.number
           (piece_seen c.args.piece.now) (piece_seen c.note_contribution.new.self) between after c.in_ok-key.ensures.1 given noted,
     )

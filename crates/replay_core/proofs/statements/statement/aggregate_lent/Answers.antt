@@ -15,15 +15,15 @@ pub returns-clause-effect : goal.returns-clause-effect
 returns-clause-effect g c =
     let f = c.args.state.now.firing.now in
     let after = variables_in c.evaluate_argument.new.state in
-    let place = c.args.place in
+    let index = c.args.index in
     let number = c.in_ok-given.given in
     let old = piece_seen c.args.piece.now in
     let new = piece_seen c.note_lent_contribution.new.self in
     let fits : FitsSigned w64 number = search rules in
-    let noted = subst (λ y. NotesEffect f.number (ef.Adds place (key_of c.values.result.now) y) old new)
+    let noted = subst (λ y. NotesEffect f.number (ef.Adds index (key_of c.values.result.now) y) old new)
     (to_z-of_z w64 number fits) (c.in_ok-note_lent_contribution.ensures.notes f.number) in
-    let of_key = subst (λ k. NotesEffect f.number (ef.Adds place k number) old new) c.values.ensures noted in (
+    let of_key = subst (λ k. NotesEffect f.number (ef.Adds index k number) old new) c.values.ensures noted in (
       c.in_ok-given.ensures.0,
-      subst (λ q. Performs f.number (with q (λ z. Has (ef.Adds place c.args.key.now z))) old (Ok false) new after)
+      subst (λ q. Performs f.number (with q (λ z. Has (ef.Adds index c.args.key.now z))) old (Ok false) new after)
           (sym c.in_ok-given.ensures.1) (refl, of_key, refl),
     )

@@ -2,29 +2,29 @@ use Rattle.std.proofs.Common.{◌<◌, sym, ap, ◌∙◌, subst, refl, length, 
 use Rattle.firings.specs.declared.firing.Firing.{Firing}
 use Rattle.firings.specs.Ends.{with_ends}
 use Rattle.shard_queue.specs.Groups.{grouping}
-use Rattle.shard_queue.specs.Groupings.{places_of}
+use Rattle.shard_queue.specs.Groupings.{indices_of}
 use Rattle.replay_core.specs.Beginnings.{lesser_of}
 use Rattle.replay_core.specs.Steps.Beginnings.{RunsBeginning}
 use Rattle.replay_core.specs.Groups.{is_group}
 use Rattle.replay_core.specs.Pieces.{IsPieceOf}
 use Rattle.replay_core.specs.Steps.Working.{firings_at}
-use Rattle.replay_core.proofs.GroupFirings.{all_below, chosen, few_places}
+use Rattle.replay_core.proofs.GroupFirings.{all_below, chosen, few_indices}
 use Rattle.replay_core.proofs.TraceRuns.{threads_are}
 use Rattle.replay_core.proofs.workers.until.piece_until.Goals as goal
 
-pub run_until-requires-clause-places : goal.run_until-requires-clause-places
-run_until-requires-clause-places g c =
+pub run_until-requires-clause-indices : goal.run_until-requires-clause-indices
+run_until-requires-clause-indices g c =
     let t = c.args.input.now.trace.now in
     let groups = grouping c.args.input.now.groups.now in
-    let are = c.places.ensures ∙ c.requires.groups.places c.args.group ∙ ap (places_of groups c.args.group) (sym (threads_are t)) in
+    let are = c.indices.ensures ∙ c.requires.groups.indices c.args.group ∙ ap (indices_of groups c.args.group) (sym (threads_are t)) in
     subst (λ (ps : List ℕ). All (λ p. p < length (with_ends t t)) ps) (sym are) (all_below (λ t. is_group c.args.group (groups.group t)) (with_ends t t))
 
 pub run_until-requires-clause-few : goal.run_until-requires-clause-few
 run_until-requires-clause-few g c =
     let t = c.args.input.now.trace.now in
     let groups = grouping c.args.input.now.groups.now in
-    let are = ap length (c.places.ensures ∙ c.requires.groups.places c.args.group ∙ ap (places_of groups c.args.group) (sym (threads_are t))) in
-    let few = few_places (λ t. is_group c.args.group (groups.group t)) 0 (with_ends t t) in
+    let are = ap length (c.indices.ensures ∙ c.requires.groups.indices c.args.group ∙ ap (indices_of groups c.args.group) (sym (threads_are t))) in
+    let few = few_indices (λ t. is_group c.args.group (groups.group t)) 0 (with_ends t t) in
     omega (arith, are, few)
 
 pub returns-clause-piece : goal.returns-clause-piece
@@ -34,7 +34,7 @@ returns-clause-piece g c = λ m runs.
     let groups = grouping c.args.input.now.groups.now in
     let lane = g.L.Lane.Engine.seen c.run_until.new.lane in
     let seen = g.S.Source.seen c.run_until.new.seat in
-    let all = ap (firings_at fs) (c.places.ensures ∙ c.requires.groups.places c.args.group ∙ ap (places_of groups c.args.group) (sym (threads_are t))) ∙ chosen (λ t. is_group c.args.group (groups.group t)) fs 0 fs refl in
+    let all = ap (firings_at fs) (c.indices.ensures ∙ c.requires.groups.indices c.args.group ∙ ap (indices_of groups c.args.group) (sym (threads_are t))) ∙ chosen (λ t. is_group c.args.group (groups.group t)) fs 0 fs refl in
     let ran = subst (λ (l : List Firing). RunsBeginning m seen l lane) all (c.in-Ok.ensures.run m (c.in_ok-lane.ensures.script m runs) (c.requires.selected.each m runs)) in
     record {
       fired = ran.0;

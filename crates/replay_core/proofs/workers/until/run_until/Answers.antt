@@ -18,109 +18,109 @@ use Rattle.replay_core.proofs.workers.until.run_until.Goals as goal
 pub fire-requires-clause-selected : goal.fire-requires-clause-selected
 fire-requires-clause-selected g c =
     let some = c.requires.script in
-    let place = slice_index c.args.places.now c.loop-place.place-index in
-    (some.0, c.loop-place.invariant.script some.0 some.1 some.2, selected_is some.0 c.args.input.now.trace.now c.args.input.now.selections.now some.2 place c.firing_at-firing.result c.at.result c.firing_at-firing.ensures.firing c.at.ensures)
+    let index = slice_index c.args.indices.now c.loop-index.index-index in
+    (some.0, c.loop-index.invariant.script some.0 some.1 some.2, selected_is some.0 c.args.input.now.trace.now c.args.input.now.selections.now some.2 index c.firing_at-firing.result c.at.result c.firing_at-firing.ensures.firing c.at.ensures)
 
 pub fire-requires-clause-clauses : goal.fire-requires-clause-clauses
 fire-requires-clause-clauses g c =
-    selected_short c.args.input.now.selections.now c.requires.short (slice_index c.args.places.now c.loop-place.place-index) c.at.result c.at.ensures
+    selected_short c.args.input.now.selections.now c.requires.short (slice_index c.args.indices.now c.loop-index.index-index) c.at.result c.at.ensures
 
 pub fire-requires-clause-few : goal.fire-requires-clause-few
 fire-requires-clause-few g c =
     let some = c.requires.script in
-    let i = c.loop-place.place-index in
+    let i = c.loop-index.index-index in
     let run = with_ends c.args.input.now.trace.now c.args.input.now.trace.now in
-    let before = firings_at run (take i c.args.places.now) in
-    let taken = ap length (c.loop-place.invariant.run some.0 some.1 some.2).piece.taken in
+    let before = firings_at run (take i c.args.indices.now) in
+    let taken = ap length (c.loop-index.invariant.run some.0 some.1 some.2).piece.taken in
     let same = length-map before number_of in
-    let few = few_at run i c.args.places.now in
+    let few = few_at run i c.args.indices.now in
     let most = c.requires.few in
     let all = c.firing_at-firing.ensures.few in
-    let inside = c.loop-place-test.true in
+    let inside = c.loop-index-test.true in
     omega (arith, taken, same, few, most, all, inside)
 
 pub returns-then-is_past_exit-clause-run : goal.returns-then-is_past_exit-clause-run
 returns-then-is_past_exit-clause-run g c = λ m runs are.
-    let inv = c.loop-place.invariant in
-    let i = c.loop-place.place-index in
-    let places = c.args.places.now in
+    let inv = c.loop-index.invariant in
+    let i = c.loop-index.index-index in
+    let indices = c.args.indices.now in
     let run = with_ends c.args.input.now.trace.now c.args.input.now.trace.now in
-    let place = slice_index places i in
+    let index = slice_index indices i in
     let f = c.firing_at-firing.result in
-    let item : get_or places i place ≡ place = get_or_default places i place 0 (omega arith) in
-    let before = firings_at run (take i places) in
-    let rest = firings_at run (drop (i + 1) places) in
-    let all = at_parts run places i ∙ ap (λ l. before ++ l) (at_next run places i place f (omega arith) item c.firing_at-firing.ensures.firing) in
+    let item : get_or indices i index ≡ index = get_or_default indices i index 0 (omega arith) in
+    let before = firings_at run (take i indices) in
+    let rest = firings_at run (drop (i + 1) indices) in
+    let all = at_parts run indices i ∙ ap (λ l. before ++ l) (at_next run indices i index f (omega arith) item c.firing_at-firing.ensures.firing) in
     let over : g.S.Source.seen c.is_past_exit.new.seat < f.number = c.is_past_exit.ensures.past c.if-is_past_exit.true in
-    (before, ended_by_number m (g.S.Source.seen c.is_past_exit.new.seat) before f rest (firings_at run places) (inv.none m runs are) over all, inv.run m runs are)
+    (before, ended_by_number m (g.S.Source.seen c.is_past_exit.new.seat) before f rest (firings_at run indices) (inv.none m runs are) over all, inv.run m runs are)
 
 pub returns-then-branch-clause-run : goal.returns-then-branch-clause-run
 returns-then-branch-clause-run g c = λ m runs are.
-    let inv = c.loop-place.invariant in
-    let i = c.loop-place.place-index in
-    let places = c.args.places.now in
+    let inv = c.loop-index.invariant in
+    let i = c.loop-index.index-index in
+    let indices = c.args.indices.now in
     let run = with_ends c.args.input.now.trace.now c.args.input.now.trace.now in
-    let place = slice_index places i in
+    let index = slice_index indices i in
     let f = c.firing_at-firing.result in
-    let old = g.E.Engine.seen c.loop-place.lane in
-    let item : get_or places i place ≡ place = get_or_default places i place 0 (omega arith) in
-    let before = firings_at run (take i places) in
-    let rest = firings_at run (drop (i + 1) places) in
-    let all = at_parts run places i ∙ ap (λ l. before ++ l) (at_next run places i place f (omega arith) item c.firing_at-firing.ensures.firing) ∙ sym (append_assoc before (f ∷ []) rest) in
+    let old = g.E.Engine.seen c.loop-index.lane in
+    let item : get_or indices i index ≡ index = get_or_default indices i index 0 (omega arith) in
+    let before = firings_at run (take i indices) in
+    let rest = firings_at run (drop (i + 1) indices) in
+    let all = at_parts run indices i ∙ ap (λ l. before ++ l) (at_next run indices i index f (omega arith) item c.firing_at-firing.ensures.firing) ∙ sym (append_assoc before (f ∷ []) rest) in
     let here = inv.script m runs are in
-    let exits = sym c.if-branch.true ∙ c.in_ok-fire.ensures.exits m here (selected_is m c.args.input.now.trace.now c.args.input.now.selections.now are (slice_index c.args.places.now c.loop-place.place-index) c.firing_at-firing.result c.at.result c.firing_at-firing.ensures.firing c.at.ensures) in (
+    let exits = sym c.if-branch.true ∙ c.in_ok-fire.ensures.exits m here (selected_is m c.args.input.now.trace.now c.args.input.now.selections.now are (slice_index c.args.indices.now c.loop-index.index-index) c.firing_at-firing.result c.at.result c.firing_at-firing.ensures.firing c.at.ensures) in (
       before ++ f ∷ [],
-      ended_by_exit m (g.S.Source.seen c.tell_exit.new.seat) before f rest (firings_at run places) old.threads (inv.run m runs are).threads (inv.none m runs are) exits all,
-      fires_more m before f old (g.E.Engine.seen c.fire.new.lane) (inv.run m runs are) (c.in_ok-fire.ensures.step m here (selected_is m c.args.input.now.trace.now c.args.input.now.selections.now are (slice_index c.args.places.now c.loop-place.place-index) c.firing_at-firing.result c.at.result c.firing_at-firing.ensures.firing c.at.ensures)),
+      ended_by_exit m (g.S.Source.seen c.tell_exit.new.seat) before f rest (firings_at run indices) old.threads (inv.run m runs are).threads (inv.none m runs are) exits all,
+      fires_more m before f old (g.E.Engine.seen c.fire.new.lane) (inv.run m runs are) (c.in_ok-fire.ensures.step m here (selected_is m c.args.input.now.trace.now c.args.input.now.selections.now are (slice_index c.args.indices.now c.loop-index.index-index) c.firing_at-firing.result c.at.result c.firing_at-firing.ensures.firing c.at.ensures)),
     )
 
 pub returns-then-branch-clause-least : goal.returns-then-branch-clause-least
 returns-then-branch-clause-least g c = λ m runs are.
-    let inv = c.loop-place.invariant in
-    let i = c.loop-place.place-index in
-    let places = c.args.places.now in
+    let inv = c.loop-index.invariant in
+    let i = c.loop-index.index-index in
+    let indices = c.args.indices.now in
     let run = with_ends c.args.input.now.trace.now c.args.input.now.trace.now in
     let f = c.firing_at-firing.result in
-    let old = g.E.Engine.seen c.loop-place.lane in
+    let old = g.E.Engine.seen c.loop-index.lane in
     let number = g.S.Source.lowered c.args.seat.now in
-    let before = firings_at run (take i places) in
+    let before = firings_at run (take i indices) in
     let here = inv.script m runs are in
-    let exits = sym c.if-branch.true ∙ c.in_ok-fire.ensures.exits m here (selected_is m c.args.input.now.trace.now c.args.input.now.selections.now are (slice_index c.args.places.now c.loop-place.place-index) c.firing_at-firing.result c.at.result c.firing_at-firing.ensures.firing c.at.ensures) in
-    let lane = fires_more m before f old (g.E.Engine.seen c.fire.new.lane) (inv.run m runs are) (c.in_ok-fire.ensures.step m here (selected_is m c.args.input.now.trace.now c.args.input.now.selections.now are (slice_index c.args.places.now c.loop-place.place-index) c.firing_at-firing.result c.at.result c.firing_at-firing.ensures.firing c.at.ensures)) in
+    let exits = sym c.if-branch.true ∙ c.in_ok-fire.ensures.exits m here (selected_is m c.args.input.now.trace.now c.args.input.now.selections.now are (slice_index c.args.indices.now c.loop-index.index-index) c.firing_at-firing.result c.at.result c.firing_at-firing.ensures.firing c.at.ensures) in
+    let lane = fires_more m before f old (g.E.Engine.seen c.fire.new.lane) (inv.run m runs are) (c.in_ok-fire.ensures.step m here (selected_is m c.args.input.now.trace.now c.args.input.now.selections.now are (slice_index c.args.indices.now c.loop-index.index-index) c.firing_at-firing.result c.at.result c.firing_at-firing.ensures.firing c.at.ensures)) in
     c.tell_exit.ensures.lowered ∙ ap (λ n. min n f.number) (c.is_past_exit.ensures.lowered ∙ inv.lowered)
     ∙ now_lowered m before f old.threads number (inv.run m runs are).threads (inv.none m runs are) exits
     ∙ ap (lesser_of number) (sym lane.piece.exit)
 
-pub loop-place-preserved : goal.loop-place-preserved
-loop-place-preserved g c =
-    let inv = c.loop-place.invariant in
-    let i = c.loop-place.place-index in
-    let places = c.args.places.now in
+pub loop-index-preserved : goal.loop-index-preserved
+loop-index-preserved g c =
+    let inv = c.loop-index.invariant in
+    let i = c.loop-index.index-index in
+    let indices = c.args.indices.now in
     let run = with_ends c.args.input.now.trace.now c.args.input.now.trace.now in
-    let place = slice_index places i in
+    let index = slice_index indices i in
     let f = c.firing_at-firing.result in
-    let old = g.E.Engine.seen c.loop-place.lane in
-    let item : get_or places i place ≡ place = get_or_default places i place 0 (omega arith) in
-    let before = firings_at run (take i places) in
-    let more = at_more run places i place f (omega arith) item c.firing_at-firing.ensures.firing in
+    let old = g.E.Engine.seen c.loop-index.lane in
+    let item : get_or indices i index ≡ index = get_or_default indices i index 0 (omega arith) in
+    let before = firings_at run (take i indices) in
+    let more = at_more run indices i index f (omega arith) item c.firing_at-firing.ensures.firing in
     let looked = c.is_past_exit.ensures in
     record {
       at = looked.seat;
       list = looked.list ∙ inv.list;
       seen = let a = looked.seen in let d = inv.seen in omega arith;
       lowered = looked.lowered ∙ inv.lowered;
-      script = λ m runs are. c.fire.ensures.script m (inv.script m runs are) (selected_is m c.args.input.now.trace.now c.args.input.now.selections.now are (slice_index c.args.places.now c.loop-place.place-index) c.firing_at-firing.result c.at.result c.firing_at-firing.ensures.firing c.at.ensures);
+      script = λ m runs are. c.fire.ensures.script m (inv.script m runs are) (selected_is m c.args.input.now.trace.now c.args.input.now.selections.now are (slice_index c.args.indices.now c.loop-index.index-index) c.firing_at-firing.result c.at.result c.firing_at-firing.ensures.firing c.at.ensures);
       unspent = search rules;
-      none = λ m runs are. ap (exit_over m) more ∙ still_none m before f old.threads (inv.run m runs are).threads (inv.none m runs are) (sym c.if-branch.false ∙ c.in_ok-fire.ensures.exits m (inv.script m runs are) (selected_is m c.args.input.now.trace.now c.args.input.now.selections.now are (slice_index c.args.places.now c.loop-place.place-index) c.firing_at-firing.result c.at.result c.firing_at-firing.ensures.firing c.at.ensures));
+      none = λ m runs are. ap (exit_over m) more ∙ still_none m before f old.threads (inv.run m runs are).threads (inv.none m runs are) (sym c.if-branch.false ∙ c.in_ok-fire.ensures.exits m (inv.script m runs are) (selected_is m c.args.input.now.trace.now c.args.input.now.selections.now are (slice_index c.args.indices.now c.loop-index.index-index) c.firing_at-firing.result c.at.result c.firing_at-firing.ensures.firing c.at.ensures));
       run = λ m runs are. subst (λ (l : List Firing). IsLaneOf m l (g.E.Engine.seen c.fire.new.lane)) (sym more)
-          (fires_more m before f old (g.E.Engine.seen c.fire.new.lane) (inv.run m runs are) (c.in_ok-fire.ensures.step m (inv.script m runs are) (selected_is m c.args.input.now.trace.now c.args.input.now.selections.now are (slice_index c.args.places.now c.loop-place.place-index) c.firing_at-firing.result c.at.result c.firing_at-firing.ensures.firing c.at.ensures)));
+          (fires_more m before f old (g.E.Engine.seen c.fire.new.lane) (inv.run m runs are) (c.in_ok-fire.ensures.step m (inv.script m runs are) (selected_is m c.args.input.now.trace.now c.args.input.now.selections.now are (slice_index c.args.indices.now c.loop-index.index-index) c.firing_at-firing.result c.at.result c.firing_at-firing.ensures.firing c.at.ensures)));
     }
 
 pub returns-clause-run : goal.returns-clause-run
 returns-clause-run g c = λ m runs are.
-    let inv = c.loop-place.invariant in
-    let i = c.loop-place.place-index in
-    let places = c.args.places.now in
+    let inv = c.loop-index.invariant in
+    let i = c.loop-index.index-index in
+    let indices = c.args.indices.now in
     let run = with_ends c.args.input.now.trace.now c.args.input.now.trace.now in
-    let before = firings_at run (take i places) in
-    (before, ended_by_last m (g.S.Source.seen c.loop-place.seat) before (firings_at run places) (inv.none m runs are) (at_all run places i (omega arith)), inv.run m runs are)
+    let before = firings_at run (take i indices) in
+    (before, ended_by_last m (g.S.Source.seen c.loop-index.seat) before (firings_at run indices) (inv.none m runs are) (at_all run indices i (omega arith)), inv.run m runs are)

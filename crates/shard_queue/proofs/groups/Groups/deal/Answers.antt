@@ -7,7 +7,7 @@ use Rattle.std.proofs.lemmas.List.FromFn.{length-map-range_with_len}
 use Rattle.shard_queue.specs.Numbers.{below}
 use Rattle.shard_queue.specs.Groupings.{with_own_group}
 use Rattle.shard_queue.proofs.Lists.{fun_ext}
-use Rattle.shard_queue.proofs.Places.{dealt_lookup, dealt_below}
+use Rattle.shard_queue.proofs.Indices.{dealt_lookup, dealt_below}
 use Rattle.shard_queue.proofs.groups.Groups.deal.Goals as goal
 
 pub with_numbers-requires-clause-numbers : goal.with_numbers-requires-clause-numbers

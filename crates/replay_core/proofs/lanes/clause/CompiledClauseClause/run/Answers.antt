@@ -5,15 +5,15 @@ use Rattle.aggregations.specs.Table.{functions_of}
 use Rattle.d_types.specs.Clauses.{fault_line, run_by}
 use Rattle.dif_codegen.specs.Meaning.{by_objects}
 use Rattle.dif_codegen.specs.Programs.{action_code}
-use Rattle.replay_core.specs.Bounds.{places_among}
+use Rattle.replay_core.specs.Bounds.{indices_among}
 use Rattle.replay_core.specs.Effects.{NotesRun}
 use Rattle.replay_core.specs.Evaluation.{variables_in}
 use Rattle.replay_core.specs.Seen.{piece_seen}
 use Rattle.replay_core.proofs.lanes.clause.CompiledClauseClause.run.Goals as goal
 
-pub run_clause-requires-clause-places : goal.run_clause-requires-clause-places
-run_clause-requires-clause-places c =
-    subst (λ l. places_among (map action_code l) ≤ length (functions_of c.args.piece.now.table)) (sym c.deref.ensures.value) c.requires.places
+pub run_clause-requires-clause-indices : goal.run_clause-requires-clause-indices
+run_clause-requires-clause-indices c =
+    subst (λ l. indices_among (map action_code l) ≤ length (functions_of c.args.piece.now.table)) (sym c.deref.ensures.value) c.requires.indices
 
 pub run_clause-requires-clause-room : goal.run_clause-requires-clause-room
 run_clause-requires-clause-room c =
@@ -30,7 +30,7 @@ returns-clause-held c =
 pub returns-clause-run : goal.returns-clause-run
 returns-clause-run c =
     let f = c.args.state.now.firing.now in
-    let line = fault_line f.number c.args.place in
+    let line = fault_line f.number c.args.index in
     let vars = variables_in c.args.state.now in
     let left = variables_in c.run_clause.new.state in
     let same = ap (λ l. run_by (by_objects f) line c.args.self.now.predicate (map action_code l) vars) c.deref.ensures.value in
@@ -38,4 +38,4 @@ returns-clause-run c =
     (λ exits. NotesRun f.number (run_by (by_objects f) line c.args.self.now.predicate (map action_code c.deref.result.now) vars) (piece_seen c.args.piece.now) (piece_seen c.run_clause.new.piece) left exits)
     _ (λ exits noted slots meant does fit good.
     subst (λ m. NotesRun f.number m (piece_seen c.args.piece.now) (piece_seen c.run_clause.new.piece) left exits)
-    (same ∙ does.runs f c.args.place vars fit good) noted) c.run_clause.ensures.run
+    (same ∙ does.runs f c.args.index vars fit good) noted) c.run_clause.ensures.run

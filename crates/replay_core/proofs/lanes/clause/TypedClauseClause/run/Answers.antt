@@ -5,19 +5,19 @@ use Rattle.std.proofs.lemmas.Result.{IfOk-weaker}
 use Rattle.aggregations.specs.Table.{functions_of}
 use Rattle.d_types.specs.Clauses.{fault_line, run_by, run_of}
 use Rattle.d_types.specs.Typed.{action_of}
-use Rattle.replay_core.specs.Bounds.{places_among}
+use Rattle.replay_core.specs.Bounds.{indices_among}
 use Rattle.replay_core.specs.Effects.{NotesRun}
 use Rattle.replay_core.specs.Evaluation.{variables_in}
 use Rattle.replay_core.specs.Forms.{by_expressions, statement_form}
 use Rattle.replay_core.specs.Seen.{piece_seen}
-use Rattle.replay_core.proofs.FormLemmas.{places_same, run_same}
+use Rattle.replay_core.proofs.FormLemmas.{indices_same, run_same}
 use Rattle.replay_core.proofs.lanes.clause.TypedClauseClause.run.Goals as goal
 
-pub run_clause-requires-clause-places : goal.run_clause-requires-clause-places
-run_clause-requires-clause-places c =
+pub run_clause-requires-clause-indices : goal.run_clause-requires-clause-indices
+run_clause-requires-clause-indices c =
     let n = length (functions_of c.args.piece.now.table) in
-    subst (λ l. places_among (map statement_form l) ≤ n) (sym c.deref.ensures.value)
-    (subst (λ k. k ≤ n) (sym (places_same c.args.self.now.statements.items)) c.requires.places)
+    subst (λ l. indices_among (map statement_form l) ≤ n) (sym c.deref.ensures.value)
+    (subst (λ k. k ≤ n) (sym (indices_same c.args.self.now.statements.items)) c.requires.indices)
 
 pub run_clause-requires-clause-room : goal.run_clause-requires-clause-room
 run_clause-requires-clause-room c =
@@ -37,7 +37,7 @@ pub returns-clause-run : goal.returns-clause-run
 returns-clause-run c =
     let f = c.args.state.now.firing.now in
     let clause = c.args.self.now in
-    let line = fault_line f.number c.args.place in
+    let line = fault_line f.number c.args.index in
     let vars = variables_in c.args.state.now in
     let same = ap (λ l. run_by (by_expressions f) line clause.predicate (map statement_form l) vars) c.deref.ensures.value
     ∙ run_same f line clause.predicate clause.statements.items vars in
@@ -46,4 +46,4 @@ returns-clause-run c =
     (λ exits. NotesRun f.number (run_by (by_expressions f) line clause.predicate (map statement_form c.deref.result.now) vars) (piece_seen c.args.piece.now) (piece_seen c.run_clause.new.piece) left exits)
     _ (λ exits noted slots meant is fit good.
     subst (λ m. NotesRun f.number m (piece_seen c.args.piece.now) (piece_seen c.run_clause.new.piece) left exits)
-    (same ∙ ap (λ m. run_of f c.args.place m vars) (sym is)) noted) c.run_clause.ensures.run
+    (same ∙ ap (λ m. run_of f c.args.index m vars) (sym is)) noted) c.run_clause.ensures.run

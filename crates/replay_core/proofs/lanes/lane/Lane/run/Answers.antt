@@ -11,7 +11,7 @@ use Rattle.replay_core.specs.Patterns.{probe_of}
 use Rattle.replay_core.specs.Seen.{piece_seen}
 use Rattle.replay_core.specs.Threads.{threads_in}
 use Rattle.replay_core.specs.Steps.AllMade.{all_made}
-use Rattle.replay_core.proofs.FiringLemmas.{goes_on, places_within, some_same}
+use Rattle.replay_core.proofs.FiringLemmas.{goes_on, indices_within, some_same}
 use Rattle.replay_core.proofs.FiringLemmas.{all_made_are}
 use Rattle.replay_core.proofs.NotedLemmas.{firing_taken}
 use Rattle.replay_core.proofs.SelectionLemmas.{zip_length}
@@ -20,18 +20,18 @@ use Rattle.replay_core.proofs.lanes.lane.Lane.run.Goals as goal
 
 pub run_on_thread-requires-clause-there : goal.run_on_thread-requires-clause-there
 run_on_thread-requires-clause-there g c =
-    let (m, runs, places_are) = c.requires.selected in
+    let (m, runs, indices_are) = c.requires.selected in
     let p = probe_of c.args.firing.now in
     let ds = map (λ c. c.descriptions) m.clauses in
     let size = length-map m.clauses (λ c. c.descriptions) in
     let many = zip_length _ c.args.self.now.clauses.now m.clauses runs.clauses_mean.each in
-    subst (λ l. All (λ i. i < length c.args.self.now.clauses.now) l) (sym places_are)
-    (λ k d lt. let within = places_within p 0 ds k d lt in omega (arith, within, size, many))
+    subst (λ l. All (λ i. i < length c.args.self.now.clauses.now) l) (sym indices_are)
+    (λ k d lt. let within = indices_within p 0 ds k d lt in omega (arith, within, size, many))
 
 pub run_on_thread-requires-clause-room : goal.run_on_thread-requires-clause-room
 run_on_thread-requires-clause-room g c =
     let held = c.requires.room in
-    omega (arith, held, c.requires.few, c.requires.places)
+    omega (arith, held, c.requires.few, c.requires.indices)
 
 pub invariant_of-self : goal.invariant_of-self
 invariant_of-self g c =
@@ -46,7 +46,7 @@ run_on_thread-requires-clause-taken g c =
 pub returns-clause-room : goal.returns-clause-room
 returns-clause-room g c =
     let held = c.requires.room in
-    let few = c.requires.places in
+    let few = c.requires.indices in
     let taken : length c.run_on_thread.new.piece.taken.items ≡ length c.args.self.now.piece.taken.items + 1 =
     ap length c.run_on_thread.ensures.taken ∙ grind (arith, c.in_ok-push.ensures.items) in
     on_ok_weaker c.run_on_thread.result (λ more. omega (arith, few, held, taken, more)) c.run_on_thread.ensures.held
@@ -59,7 +59,7 @@ returns-clause-step g c =
     let fit = firing_is f c.requires.ranges in
     IfOk-weaker c.run_on_thread.result _ _ (λ exits told m runs selected typed.
     let run = told (slots_of m) m.clauses runs.clauses_mean fit (typed f.thread) in
-    let made = all_made f m.clauses c.args.places.now start in
+    let made = all_made f m.clauses c.args.indices.now start in
     let is : made ≡ firing_result m f (threads f.thread) =
     ap (λ l. all_made f m.clauses l start) selected ∙ all_made_are m f start in
     record {
@@ -76,7 +76,7 @@ returns-clause-exits g c =
     let fit = firing_is f c.requires.ranges in
     IfOk-weaker c.run_on_thread.result _ _ (λ exits told m runs selected typed.
     let run = told (slots_of m) m.clauses runs.clauses_mean fit (typed f.thread) in
-    let is : all_made f m.clauses c.args.places.now start ≡ firing_result m f (threads f.thread) =
+    let is : all_made f m.clauses c.args.indices.now start ≡ firing_result m f (threads f.thread) =
     ap (λ l. all_made f m.clauses l start) selected ∙ all_made_are m f start in
     run.exited ∙ ap (λ r. is_some r.exit) is ∙ some_same (λ status. (f.number, status)) (firing_result m f (threads f.thread)).exit) c.run_on_thread.ensures.run
 
@@ -88,7 +88,7 @@ returns-clause-typed g c =
     let fit = firing_is f c.requires.ranges in
     IfOk-weaker c.run_on_thread.result _ _ (λ exits told m runs selected typed thread.
     let run = told (slots_of m) m.clauses runs.clauses_mean fit (typed f.thread) in
-    let is : all_made f m.clauses c.args.places.now start ≡ firing_result m f (threads f.thread) =
+    let is : all_made f m.clauses c.args.indices.now start ≡ firing_result m f (threads f.thread) =
     ap (λ l. all_made f m.clauses l start) selected ∙ all_made_are m f start in
     let left : threads_in c.run_on_thread.new.threads.entries thread ≡ threads_after m f threads thread =
     run.threads thread ∙ ap (λ r. if int_eq thread f.thread then r.variables.own else threads thread) is in

@@ -13,7 +13,7 @@ returns-clause-notes c =
     on_ok_weaker c.add.result (λ stands number vars. record {
       texts = append_nil c.args.self.now.events.items;
       functions = c.add.ensures.functions;
-      table = λ before stood. subst (λ y. StandsFor c.add.new.self (before ++ contribution c.args.place c.args.key.now y ∷ []))
+      table = λ before stood. subst (λ y. StandsFor c.add.new.self (before ++ contribution c.args.index c.args.key.now y ∷ []))
           (to_z-of_z w64 c.args.argument fits) (stands before stood);
       taken = refl;
       exit = or_none c.args.self.now.exit;

@@ -14,7 +14,7 @@ returns-clause-notes c =
     on_ok_weaker c.add_lent.result (λ stands number vars. record {
       texts = append_nil c.args.self.now.events.items;
       functions = c.add_lent.ensures.functions;
-      table = λ before stood. subst (λ y. StandsFor c.add_lent.new.self (before ++ contribution c.args.place (key_of c.args.values.now) y ∷ []))
+      table = λ before stood. subst (λ y. StandsFor c.add_lent.new.self (before ++ contribution c.args.index (key_of c.args.values.now) y ∷ []))
           (to_z-of_z w64 c.args.argument fits) (stands before stood);
       taken = refl;
       exit = or_none c.args.self.now.exit;

@@ -2,10 +2,10 @@ use Rattle.std.proofs.Common.{rules, ◌≡◌, ◌≤◌, ◌∙◌, Some, ap, 
 use Rattle.std.specs.Prelude.{slice_get}
 use Rattle.std.proofs.lemmas.Option.{slice_get-get_or}
 use Rattle.replay_core.specs.Steps.Described.{hash_sought, is_found}
-use Rattle.replay_core.specs.Steps.Places.{merge}
+use Rattle.replay_core.specs.Steps.Indices.{merge}
 use Rattle.replay_core.specs.Uniting.{InOrder, with_number}
 use Rattle.replay_core.proofs.DescribedLemmas.{all_kinds, clauses_selected, found_all}
-use Rattle.replay_core.proofs.DescribedLemmas.{given_in_order, kind_more, none_yet, places_given}
+use Rattle.replay_core.proofs.DescribedLemmas.{given_in_order, kind_more, none_yet, indices_given}
 use Rattle.replay_core.proofs.selection.table.DescriptionTable.clauses.Goals as goal
 
 pub loop-kind-init : goal.loop-kind-init
@@ -32,4 +32,4 @@ returns c = λ ds t.
     let p = c.args.probe.now in
     let s = c.args.self.now in
     let past : length s.kinds.items ≤ c.loop-kind.kind = search rules in
-    c.loop-kind.invariant ds t ∙ all_kinds s.hash_key s.kinds.items c.loop-kind.kind p t.all past t.kinds ∙ ap (clauses_selected p) t.are ∙ places_given p 0 ds
+    c.loop-kind.invariant ds t ∙ all_kinds s.hash_key s.kinds.items c.loop-kind.kind p t.all past t.kinds ∙ ap (clauses_selected p) t.are ∙ indices_given p 0 ds

@@ -15,7 +15,7 @@ invariant-loop-block g l =
     × (goal.iterator-loop-block g).is_finite l.block-iterator
     × (done : List ℕ) × record {
       size : chunks_size l.block-iterator ≡ 16;
-      parts : done ++ chunks_rest l.block-iterator ≡ l.fn.places;
+      parts : done ++ chunks_rest l.block-iterator ≡ l.fn.indices;
       script : (m : ScriptMeant) → g.E.Engine.runs l.fn.lane m → AreFor l.self.trace.now l.self.selections.now m → g.E.Engine.runs l.lane m;
       unspent : IsFalse (g.E.Engine.is_spent l.lane);
       run : (m : ScriptMeant) → g.E.Engine.runs l.fn.lane m → AreFor l.self.trace.now l.self.selections.now m

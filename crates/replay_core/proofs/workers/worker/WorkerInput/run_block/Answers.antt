@@ -17,50 +17,50 @@ run_one-requires-clause-selected g c =
     let some = c.requires.script in
     let s = c.args.self.now in
     let i = c.loop-at.at in
-    let places = c.args.places.now in
+    let indices = c.args.indices.now in
     let list = get_or c.lists-lists.result i c.index-lists-at.result in
-    let listed = listed_at c.lists-lists.result s.selections.now places i c.index-lists-at.result (omega arith) c.lists-lists.ensures in
-    (some.0, c.loop-at.invariant.script some.0 some.1 some.2, selected_is some.0 s.trace.now s.selections.now some.2 (slice_index places i) c.read_at-firing.result list c.read_at-firing.ensures.firing listed)
+    let listed = listed_at c.lists-lists.result s.selections.now indices i c.index-lists-at.result (omega arith) c.lists-lists.ensures in
+    (some.0, c.loop-at.invariant.script some.0 some.1 some.2, selected_is some.0 s.trace.now s.selections.now some.2 (slice_index indices i) c.read_at-firing.result list c.read_at-firing.ensures.firing listed)
 
 pub run_one-requires-clause-clauses : goal.run_one-requires-clause-clauses
 run_one-requires-clause-clauses g c =
     let s = c.args.self.now in
     let i = c.loop-at.at in
-    let places = c.args.places.now in
+    let indices = c.args.indices.now in
     let list = get_or c.lists-lists.result i c.index-lists-at.result in
-    selected_short s.selections.now c.requires.short (slice_index places i) list (listed_at c.lists-lists.result s.selections.now places i c.index-lists-at.result (omega arith) c.lists-lists.ensures)
+    selected_short s.selections.now c.requires.short (slice_index indices i) list (listed_at c.lists-lists.result s.selections.now indices i c.index-lists-at.result (omega arith) c.lists-lists.ensures)
 
 pub loop-at-preserved : goal.loop-at-preserved
 loop-at-preserved g c =
     let s = c.args.self.now in
     let i = c.loop-at.at in
-    let places = c.args.places.now in
+    let indices = c.args.indices.now in
     let run = with_ends s.trace.now s.trace.now in
-    let place = slice_index places i in
+    let index = slice_index indices i in
     let f = c.read_at-firing.result in
     let inv = c.loop-at.invariant in
     let ran = c.in_ok-run_one.ensures in
     let list = get_or c.lists-lists.result i c.index-lists-at.result in
-    let listed = listed_at c.lists-lists.result s.selections.now places i c.index-lists-at.result (omega arith) c.lists-lists.ensures in
-    let counted = filter (is_in c.args.span) (firings_at run (take i places)) in
-    let item : get_or places i place ≡ place = get_or_default places i place 0 (omega arith) in
-    let more = kept_more c.args.span run places i place f (omega arith) item c.read_at-firing.ensures.firing in
+    let listed = listed_at c.lists-lists.result s.selections.now indices i c.index-lists-at.result (omega arith) c.lists-lists.ensures in
+    let counted = filter (is_in c.args.span) (firings_at run (take i indices)) in
+    let item : get_or indices i index ≡ index = get_or_default indices i index 0 (omega arith) in
+    let more = kept_more c.args.span run indices i index f (omega arith) item c.read_at-firing.ensures.firing in
     record {
-      script = λ m runs are. c.run_one.ensures.script m (inv.script m runs are) (selected_is m s.trace.now s.selections.now are place f list c.read_at-firing.ensures.firing listed);
+      script = λ m runs are. c.run_one.ensures.script m (inv.script m runs are) (selected_is m s.trace.now s.selections.now are index f list c.read_at-firing.ensures.firing listed);
       unspent = ran.unspent;
       few = let now = ran.few in let before = inv.few in omega (arith, now, before);
       run = λ m before runs are is. subst (λ (l : List Firing). IsLaneOf m l (g.E.Engine.seen c.run_one.new.lane))
           (append_assoc before counted (filter (is_in c.args.span) (f ∷ [])) ∙ ap (λ l. before ++ l) (sym more))
-          (ran.run m (before ++ counted) (inv.script m runs are) (selected_is m s.trace.now s.selections.now are place f list c.read_at-firing.ensures.firing listed) (inv.run m before runs are is));
+          (ran.run m (before ++ counted) (inv.script m runs are) (selected_is m s.trace.now s.selections.now are index f list c.read_at-firing.ensures.firing listed) (inv.run m before runs are is));
     }
 
 pub returns-clause-run : goal.returns-clause-run
 returns-clause-run g c = λ m before runs are is.
     let t = c.args.self.now.trace.now in
     let run = with_ends t t in
-    let places = c.args.places.now in
+    let indices = c.args.indices.now in
     subst (λ (l : List Firing). IsLaneOf m (before ++ filter (is_in c.args.span) l) (g.E.Engine.seen c.loop-at.lane))
-    (sym (at_all run places c.loop-at.at (omega arith))) (c.loop-at.invariant.run m before runs are is)
+    (sym (at_all run indices c.loop-at.at (omega arith))) (c.loop-at.invariant.run m before runs are is)
 
 pub returns-clause-script : goal.returns-clause-script
 returns-clause-script g c = c.loop-at.invariant.script
@@ -76,5 +76,5 @@ run_one-requires-clause-ranges g c = c.read_at-firing.ensures.ranges
 
 pub read_at-firing-requires-clause-row : goal.read_at-firing-requires-clause-row
 read_at-firing-requires-clause-row g c =
-    let read = mapped_at _ c.rows-rows.result c.args.places.now c.loop-at.at (omega arith) c.rows-rows.ensures in
+    let read = mapped_at _ c.rows-rows.result c.args.indices.now c.loop-at.at (omega arith) c.rows-rows.ensures in
     search (rules, read)

@@ -15,5 +15,5 @@ invariant-loop-at g l = record {
   unspent : IsFalse (g.E.Engine.is_spent l.lane);
   few : length (g.E.Engine.seen l.lane).piece.taken ≤ length (g.E.Engine.seen l.fn.lane).piece.taken + l.at;
   run : (m : ScriptMeant) (before : List Firing) → g.E.Engine.runs l.fn.lane m → AreFor l.self.trace.now l.self.selections.now m → IsLaneOf m before (g.E.Engine.seen l.fn.lane)
-      → IsLaneOf m (before ++ filter (is_in l.span) (firings_at (with_ends l.self.trace.now l.self.trace.now) (take l.at l.fn.places))) (g.E.Engine.seen l.lane);
+      → IsLaneOf m (before ++ filter (is_in l.span) (firings_at (with_ends l.self.trace.now l.self.trace.now) (take l.at l.fn.indices))) (g.E.Engine.seen l.lane);
 }

@@ -1,9 +1,0 @@
-use Rattle.std.proofs.Common.{map}
-use Rattle.firings.specs.Units.{owner_in, probe_in}
-use Rattle.firings.proofs.Probing.{owners_are_places}
-use Rattle.firings.proofs.firings.Firings.owner_places.Goals as goal
-
-pub returns : goal.returns
-returns c =
-    let i = c.self.inside in
-    rw (c.deref.ensures.value, ← c.self.view_is) (owners_are_places (map owner_in i.owners) (map probe_in i.probes) i.args.items i.rows.items c.self.invariant)
