@@ -17,7 +17,7 @@ use Rattle.std.specs.declared.alloc.AllocError.{AllocError}
 use Rattle.firing_reader.specs.declared.fault.TraceFault.{TraceFault}
 use Rattle.firing_reader.specs.declared.fault.TraceFault.TheVariants.{Memory}
 use Rattle.firings.specs.declared.firing.Firing.{Firing}
-use Rattle.firing_reader.specs.Blocks.{AreRead, BeginsAtFeed, IsKeptAt, Taken, reads_at}
+use Rattle.firing_reader.specs.Blocks.{AreRead, BeginsAtFeed, Taken}
 use Rattle.firing_reader.specs.Steps.Blocks.{Begins, IsFaultOf}
 use Rattle.firing_reader.specs.Left.{left_in}
 use Rattle.firing_reader.specs.Plain.{BeginsAtEnd, IsEnd, rows_after, rows_in}
@@ -34,14 +34,6 @@ use Rattle.firing_reader.proofs.PlainRows.{goes_feed, goes_reads, goes_rows, ski
 use Rattle.firing_reader.proofs.Rows.{trace_err, trace_ok, trace_rows}
 
 -- ---- bytes
-
--- bytes moved to the front, and the rest cut off
-pub front_dropped : (all : List ℕ) (n : ℕ) → n ≤ length all → take (length all - n) (paste all 0 (drop n all) (length all - n)) ≡ drop n all
-front_dropped all n few =
-    let left = length all - n in
-    let same : left ≡ 0 + left = omega arith in
-    let rest : length (drop n all) ≡ left = omega (arith, length-drop n all) in
-    ap (λ (k : ℕ). take k (paste all 0 (drop n all) left)) same ∙ take-paste all 0 (drop n all) left (omega arith) (omega arith) ∙ take_all left (drop n all) (omega arith)
 
 -- what comes after the end of a row
 pub after_is : (rest : List ℕ) (end : ℕ) (after r : List ℕ) → rest ≡ end ∷ after → rest ≡ take 1 rest ++ r → rest ≡ end ∷ r
@@ -206,48 +198,16 @@ fault_of_header x end e f many index few ends (inr (read, some)) = inr (fault_cs
 
 -- ---- a reader
 
--- more bytes at the end
-pub kept_more : (s : Stage) (fs : List Firing) (x block : List ℕ) → IsKeptAt s fs x → IsKeptAt s fs (x ++ block)
-kept_more stage.Header fs x block h = h
-kept_more stage.Rows fs x block ((after, is), are_read) = ((after ++ block, ap (λ (l : List ℕ). l ++ block) is), are_read)
-kept_more (stage.Refused e) fs x block h = h
-
 abbrev pub with_left : Stage → List Firing → List ℕ → Taken
 with_left s fs x = record { stage = s; firings = fs; left = x }
-
--- the bytes up to an index after the first
-pub kept_front : (s : Stage) (fs : List Firing) (x : List ℕ) (at : ℕ) → (0 < length x → 0 < at) → IsKeptAt s fs x → IsKeptAt s fs (take at x)
-kept_front stage.Header fs x at some h = h
-kept_front stage.Rows fs x zero some ((after, is), are_read) = absurd (omega (arith, some (omega (arith, ap length is))))
-kept_front stage.Rows fs x (suc at) some ((after, is), are_read) = ((take at after, ap (take (suc at)) is), are_read)
-kept_front (stage.Refused e) fs x at some h = h
-
--- a block after them, but for its line feed
-pub kept_added : (r : Result (Unit {0}) AllocError) (s : Stage) (fs : List Firing) (x block y : List ℕ) → BeginsAtFeed block
-    → OnOk r ((bytes : List ℕ) → block ≡ 10 ∷ bytes → y ≡ x ++ bytes) → OnErr r (y ≡ x) → IsKeptAt s fs x → IsKeptAt s fs y
-kept_added (Ok _) s fs x block y (bytes, is) added refused h = subst (IsKeptAt s fs) (sym (added bytes is)) (kept_more s fs x bytes h)
-kept_added (Err e) s fs x block y feed added refused h = subst (IsKeptAt s fs) (sym refused) h
-
-pub reads_added : (r : Result (Unit {0}) AllocError) (s : Stage) (fs : List Firing) (x block y : List ℕ) → OnOk r ((bytes : List ℕ) → block ≡ 10 ∷ bytes → y ≡ x ++ bytes)
-    → OnOk r ((bytes rest : List ℕ) → block ≡ 10 ∷ bytes → reads_at s fs (y ++ rest) ≡ reads_at s fs (x ++ (bytes ++ rest)))
-reads_added (Ok _) s fs x block y added = λ bytes rest is. ap (reads_at s fs) (ap (λ (l : List ℕ). l ++ rest) (added bytes is) ∙ append_assoc x bytes rest)
-reads_added (Err e) s fs x block y added = tt
 
 pub same_left : (r : Result (Unit {0}) AllocError) (s : Stage) (fs : List Firing) (x y : List ℕ) → OnErr r (y ≡ x)
     → OnErr r (with_left s fs y ≡ with_left s fs x)
 same_left (Ok _) s fs x y refused = tt
 same_left (Err e) s fs x y refused = ap (with_left s fs) refused
 
--- a row that is taken out, and then put back
-pub row_back : (s : Stage) (fs : List Firing) (x : List ℕ) (at : ℕ) (rest : List ℕ) → reads_at s fs (take at x ++ (drop at x ++ rest)) ≡ reads_at s fs (x ++ rest)
-row_back s fs x at rest = ap (reads_at s fs) (sym (append_assoc (take at x) (drop at x) rest) ∙ ap (λ (l : List ℕ). l ++ rest) (take-append-drop at x))
-
 pub begins_then : (x : List ℕ) (fs : List Firing) (y : List ℕ) (gs : List Firing) (z : List ℕ) → Begins x fs y → GoesOn fs y gs z → (tail : List ℕ) → rows_in gs (z ++ tail) ≡ trace_of (x ++ tail)
 begins_then x fs y gs z h g tail = sym (h.goes_on tail ∙ goes_reads fs y gs z g tail)
-
-pub begins_fault : (x : List ℕ) (fs : List Firing) (y : List ℕ) (e : TraceFault) → Begins x fs y → IsFaultOf e (λ tail. rows_in fs (y ++ tail)) → IsFaultOf e (λ tail. trace_of (x ++ tail))
-begins_fault x fs y e h (inl memory) = inl memory
-begins_fault x fs y e h (inr fault) = inr (λ tail. h.goes_on tail ∙ fault tail)
 
 pub begins_rows : (x : List ℕ) (fs : List Firing) (y : List ℕ) (gs : List Firing) (z : List ℕ) → Begins x fs y → GoesOn fs y gs z → AreRead gs
 begins_rows x fs y gs z h g = goes_rows fs y gs z g h.are_read

@@ -7,6 +7,7 @@ use Rattle.std.proofs.lemmas.List.{length-replicate, map-append, append-nil}
 use Rattle.firings.specs.declared.stored_row.Given.{Given}
 use Rattle.firing_reader.specs.Column.{signed_of}
 use Rattle.firing_reader.specs.Plain.{BeginsAtEnd, Passes}
+use Rattle.firing_reader.specs.Steps.Arguments.{EndsAlike}
 use Rattle.firing_reader.specs.Steps.Plain.{Closes, JoinsField, ReadsArguments}
 use Rattle.firings.specs.Arguments.{ten}
 use Rattle.firings.specs.Stored.{count_of, first_of, given_in}
@@ -17,7 +18,7 @@ use Rattle.firings.proofs.Stored.{part_kept, ten_same}
 -- ---- arguments that are all the same
 
 -- fields that commas end, and a last one
-abbrev pub alike : List ℕ → ℕ → List ℕ
+abbrev alike : List ℕ → ℕ → List ℕ
 alike field zero = field
 alike field (suc n) = field ++ 44 ∷ alike field n
 
@@ -28,13 +29,12 @@ alike_close field joins (suc n) bytes rest is end =
     (passes_one bytes field (alike field n ++ rest) (record { split = is ∙ append_assoc field (44 ∷ alike field n) rest; plain = joins }))
     (alike_close field joins n (alike field n ++ rest) rest refl end)
 
-alike_found : (field : List ℕ) → All JoinsField field → (n : ℕ) (found bytes rest : List ℕ) → found ≡ alike field n → take (length found) bytes ≡ found → bytes ≡ take (length found) bytes ++ rest
-    → BeginsAtEnd rest → Closes bytes (replicate (suc n) field) rest
-alike_found field joins n found bytes rest is front split end = alike_close field joins n bytes rest (split ∙ ap (λ (l : List ℕ). l ++ rest) (front ∙ is)) end
-
 -- one that is 0
-abbrev pub nought : List ℕ
+abbrev nought : List ℕ
 nought = 48 ∷ []
+
+nought_read : signed_of nought ≡ Some (pos 0)
+nought_read = one_signed 0 (omega arith)
 
 -- the last zeros of ten
 zeros_at : (n : ℕ) → n < 10 → take (19 - (20 - 2 * suc n)) (drop (20 - 2 * suc n) (alike nought 9)) ≡ alike nought n
@@ -50,11 +50,10 @@ zeros_at (suc (suc (suc (suc (suc (suc (suc (suc zero)))))))) lt = refl
 zeros_at (suc (suc (suc (suc (suc (suc (suc (suc (suc zero))))))))) lt = refl
 zeros_at (suc (suc (suc (suc (suc (suc (suc (suc (suc (suc n)))))))))) lt = absurd (omega arith)
 
-pub zeros_end : (count : ℕ) (found bytes rest : List ℕ) → 1 ≤ count → count ≤ 10 → found ≡ take (19 - (20 - 2 * count)) (drop (20 - 2 * count) (alike nought 9))
-    → take (length found) bytes ≡ found → bytes ≡ take (length found) bytes ++ rest → BeginsAtEnd rest → Closes bytes (replicate count (48 ∷ [])) rest
-zeros_end zero found bytes rest least most is front split end = absurd (omega arith)
-zeros_end (suc n) found bytes rest least most is front split end =
-    alike_found nought (one_joins 0 (omega arith)) n found bytes rest (is ∙ zeros_at n (omega arith)) front split end
+pub zeros_end : (count : ℕ) (bytes rest : List ℕ) → 1 ≤ count → count ≤ 10 → (bytes ≡ take (19 - (20 - 2 * count)) (drop (20 - 2 * count) (alike nought 9)) ++ rest) × BeginsAtEnd rest → EndsAlike bytes count rest
+zeros_end zero bytes rest least most h = absurd (omega arith)
+zeros_end (suc n) bytes rest least most (is, end) =
+    (nought, nought_read, alike_close nought (one_joins 0 (omega arith)) n bytes rest (is ∙ ap (λ (l : List ℕ). l ++ rest) (zeros_at n (omega arith))) end)
 
 -- the last empty ones of ten
 empty_at : (n : ℕ) → n < 10 → take (9 - (10 - suc n)) (drop (10 - suc n) (alike [] 9)) ≡ alike [] n
@@ -70,10 +69,10 @@ empty_at (suc (suc (suc (suc (suc (suc (suc (suc zero)))))))) lt = refl
 empty_at (suc (suc (suc (suc (suc (suc (suc (suc (suc zero))))))))) lt = refl
 empty_at (suc (suc (suc (suc (suc (suc (suc (suc (suc (suc n)))))))))) lt = absurd (omega arith)
 
-pub empty_end : (count : ℕ) (found bytes rest : List ℕ) → 1 ≤ count → count ≤ 10 → found ≡ take (9 - (10 - count)) (drop (10 - count) (alike [] 9))
-    → take (length found) bytes ≡ found → bytes ≡ take (length found) bytes ++ rest → BeginsAtEnd rest → Closes bytes (replicate count []) rest
-empty_end zero found bytes rest least most is front split end = absurd (omega arith)
-empty_end (suc n) found bytes rest least most is front split end = alike_found [] (All-nil JoinsField) n found bytes rest (is ∙ empty_at n (omega arith)) front split end
+pub empty_end : (count : ℕ) (bytes rest : List ℕ) → 1 ≤ count → count ≤ 10 → (bytes ≡ take (9 - (10 - count)) (drop (10 - count) (alike [] 9)) ++ rest) × BeginsAtEnd rest → EndsAlike bytes count rest
+empty_end zero bytes rest least most h = absurd (omega arith)
+empty_end (suc n) bytes rest least most (is, end) =
+    ([], refl, alike_close [] (All-nil JoinsField) n bytes rest (is ∙ ap (λ (l : List ℕ). l ++ rest) (empty_at n (omega arith))) end)
 
 -- ---- arguments, one after the other
 
@@ -137,9 +136,6 @@ given_read old values all k g is first count some =
     same [] i = sym (none k i)
     same (v ∷ values) zero = refl
     same (v ∷ values) (suc i) = same values i
-
-pub nought_read : signed_of nought ≡ Some (pos 0)
-nought_read = one_signed 0 (omega arith)
 
 alike_read : (field : List ℕ) → signed_of field ≡ Some (pos 0) → (k : ℕ) → map signed_of (replicate k field) ≡ map (λ a. Some a) (replicate k (pos 0))
 alike_read field is zero = refl

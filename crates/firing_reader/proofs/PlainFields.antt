@@ -63,10 +63,6 @@ pub minus_more : (bytes rest : List ℕ) → bytes ≡ 45 ∷ rest → (o : Opti
 minus_more bytes rest is None h = h
 minus_more bytes rest is (Some p) (field, fronts, read) = (45 ∷ field, record { split = is ∙ ap (λ (l : List ℕ). 45 ∷ l) fronts.split; plain = All-cons JoinsField 45 field minus_joins fronts.plain }, read)
 
--- an argument that was read, seen as the number that its word stands for
-pub read_fits : (o : Option ℤ) (a b : ℤ) → o ≡ Some a → b ≡ a → o ≡ Some b
-read_fits o a b read same = read ∙ ap (λ (z : ℤ). Some z) (sym same)
-
 word_joins : (b : ℕ) → IsWordByte b → JoinsField b
 word_joins b h = (λ e. absurd (omega (arith, h.0, e)), λ e. absurd (omega (arith, h.0, e)), λ e. absurd (omega (arith, h.0, e)), λ e. absurd (omega (arith, h.0, e)))
 

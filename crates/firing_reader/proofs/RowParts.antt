@@ -1,6 +1,6 @@
 -- A plain row, as it is stored.
-use Rattle.std.proofs.Common.{◌≡◌, ◌∙◌, ◌^◌, ap, subst, ℕ, ℤ, List, [], ◌∷◌, ◌++◌, get_or, map, All, Some, refl}
-use Rattle.std.specs.Prelude.{slice_get}
+use Rattle.std.proofs.Common.{◌≡◌, ◌∙◌, ◌^◌, ap, subst, ℕ, ℤ, List, [], ◌∷◌, ◌++◌, get_or, map, All, Option, None, Some, refl, sym}
+use Rattle.std.specs.Prelude.{MatchOption, slice_get}
 use Rattle.std.proofs.lemmas.List.Elements.{All-append, All-cons, All-nil}
 use Rattle.firings.specs.declared.firing.Firing.{Firing}
 use Rattle.firings.specs.declared.stored_row.Row.{Row}
@@ -116,3 +116,14 @@ pub row_stored : (os : List Owner) (ps : List Probe) (args : List ℤ) (rs : Lis
 row_stored os ps args rs old r f is at_o at_p given number cpu time =
     let one : firing_in os ps args r ≡ f = rw (named_at os r.owner (owner_of f) no_owner at_o, named_at ps r.probe (probe_of f) no_probe at_p, given, number, cpu, time) refl in
     stored os ps args rs r f old is one
+
+-- a row that was added if there was memory for it: what holds either way
+pub either_row : (found : Option (Unit {0})) (P : List Row → Type 0) (rs new : List Row) (r : Row) → MatchOption found (new ≡ rs) (λ _. new ≡ rs ++ r ∷ []) → P rs → P (rs ++ r ∷ []) → P new
+either_row None P rs new r is same more = subst P (sym is) same
+either_row (Some t) P rs new r is same more = subst P (sym is) more
+
+-- and the firings that are seen
+pub seen_pushed : (found : Option (Unit {0})) (made : Row → Firing) (rs new : List Row) (r : Row) (old : List Firing) (f : Firing) → MatchOption found (new ≡ rs) (λ _. new ≡ rs ++ r ∷ []) → map made rs ≡ old
+    → map made (rs ++ r ∷ []) ≡ old ++ f ∷ [] → MatchOption found (map made new ≡ old) (λ _. map made new ≡ old ++ f ∷ [])
+seen_pushed None made rs new r old f is same more = ap (map made) is ∙ same
+seen_pushed (Some t) made rs new r old f is same more = ap (map made) is ∙ more

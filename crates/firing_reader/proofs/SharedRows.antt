@@ -49,23 +49,8 @@ goes_rows_of old x a mid (f ∷ fs) rest end g (next, row, more) (first, rises) 
     rw (sym (append_assoc a (f ∷ []) fs)) (goes_rows_of old x (a ++ f ∷ []) next fs rest end one more (rw (last_push a f) rises) (omega (arith, size, few)))
 
 -- the bytes of the first of two pieces
-cut_left : (bytes front after : List ℕ) (count : ℕ) → bytes ≡ front ++ after → count < length front → left_after count bytes ≡ left_after count front ++ after
-cut_left bytes front after count is inside =
-    ap (λ (l : List ℕ). 10 ∷ l) (ap (drop (count + 1)) is ∙ drop-append-le (count + 1) front after (omega (arith, inside)))
-
 cut_read : (old : List Firing) (bytes front after : List ℕ) (new : List Firing) (count : ℕ) → bytes ≡ front ++ after → PassesRows old front new count → GoesOn old bytes new (left_after count front ++ after)
 cut_read old bytes front after new count is h = rw is (goes_more old front new (left_after count front) after h.read)
-
--- the second piece is left
-pub passes_front : (old : List Firing) (bytes front last : List ℕ) (new : List Firing) (count : ℕ) → AreCut bytes front last → PassesRows old front new count → PassesRows old bytes new count
-passes_front old bytes front last new count c h =
-    let size = ap length c.is_bytes in
-    let both = length-append front c.after in
-    record {
-      read = rw (cut_left bytes front c.after count c.is_bytes h.inside) (cut_read old bytes front c.after new count c.is_bytes h);
-      few = h.few;
-      inside = omega (arith, size, both, h.inside);
-    }
 
 -- what is left of both is what is left of the second
 last_left : (bytes front last : List ℕ) (count more : ℕ) → AreCut bytes front last → count + 1 ≡ length front → left_after (count + more) bytes ≡ left_after more last
@@ -88,22 +73,6 @@ first_left : (old : List Firing) (bytes front last : List ℕ) (mid : List Firin
 first_left old bytes front last mid count c h whole =
     let feed : GoesOn old bytes mid (10 ∷ c.after) = rw (← none_left front c.after count whole) (cut_read old bytes front c.after mid count c.is_bytes h) in
     rw c.is_last (goes_end old bytes mid 10 c.end c.after (inl refl) c.ends feed)
-
--- both pieces
-pub passes_both : (old : List Firing) (bytes front last : List ℕ) (mid fs new : List Firing) (count more : ℕ) → AreCut bytes front last → PassesRows old front mid count → count + 1 ≡ length front
-    → IsPiece last fs more → GoesAfter mid fs → new ≡ mid ++ fs → PassesRows old bytes new (count + more)
-passes_both old bytes front last mid fs new count more c h whole p goes is =
-    let size = ap length c.is_bytes in
-    let both = length-append front c.after in
-    let own = ap length c.is_last in
-    let all = length-append mid fs in
-    let first = first_left old bytes front last mid count c h whole in
-    let read = goes_rows_of old bytes mid last fs (p.end ∷ drop (more + 1) last) (last_number (mid ++ fs)) first p.rows goes.rises goes.few in
-    record {
-      read = rw (is, last_left bytes front last count more c whole) (goes_end old bytes (mid ++ fs) p.end 10 (drop (more + 1) last) p.ends (inl refl) read);
-      few = rw is (omega (arith, all, goes.few));
-      inside = omega (arith, size, both, own, whole, p.inside);
-    }
 
 -- ---- one worker
 

@@ -11,16 +11,15 @@ use Rattle.firing_reader.specs.declared.blocks.Stage.TheVariants as stage
 use Rattle.firings.specs.declared.firing.Firing.{Firing}
 use Rattle.firing_reader.specs.declared.pieces.Piece.{Piece}
 use Rattle.firing_reader.specs.Vocabulary.{Memory, TraceFault}
-use Rattle.firing_reader.specs.Blocks.{AreRead, BeginsAtFeed, IsKeptAt, reads_at}
+use Rattle.firing_reader.specs.Blocks.{AreRead, BeginsAtFeed, reads_at}
 use Rattle.firing_reader.specs.Plain.{rows_in}
-use Rattle.firing_reader.specs.Pieces.{AreCut, ArePieces, BeginsWithPiece, IsKept, IsPiece, Waits}
-use Rattle.firing_reader.specs.Pieces.{unread}
+use Rattle.firing_reader.specs.Pieces.{AreCut, ArePieces, AreWaiting, BeginsWithPiece, IsKeptAt}
+use Rattle.firing_reader.specs.Pieces.{IsPiece, unread}
 use Rattle.firing_reader.specs.Steps.Blocks.{IsFaultOf}
-use Rattle.firing_reader.specs.Steps.Pieces.{Adds, AreWaiting}
+use Rattle.firing_reader.specs.Steps.Pieces.{Adds}
 use Rattle.firing_reader.specs.Steps.Plain.{GoesAfter, GoesOn, PassesRows}
 use Rattle.firings.specs.Firings.{last_number}
 use Rattle.firing_reader.specs.Trace.{rows_of}
-use Rattle.firing_reader.proofs.BlockSteps.{kept_front, kept_more}
 use Rattle.firing_reader.proofs.PlainRows.{goes_both, goes_end, goes_first, goes_rows}
 use Rattle.firing_reader.proofs.SharedRows.{goes_more, goes_rows_of, passes_on}
 
@@ -96,10 +95,6 @@ last_fault : (e : TraceFault) (old : List Firing) (bytes : List ℕ) → IsFault
 last_fault e old bytes (inl memory) = inl memory
 last_fault e old bytes (inr fault) = inr (sym (ap (rows_in old) (append-nil bytes)) ∙ fault [])
 
-pub none_read : AreRead []
-unfolding rows_of
-none_read = ([], refl)
-
 -- a fault of what waits, whatever is left
 pub fault_waiting : (e : TraceFault) (old : List Firing) (w left : List ℕ) → IsFaultOf e (λ tail. rows_in old (w ++ tail)) → IsFaultOf e (λ tail. rows_in old (unread w left ++ tail))
 fault_waiting e old w left (inl memory) = inl memory
@@ -128,83 +123,46 @@ keeps_left (b ∷ c ∷ w) left few leads feed = absurd (omega (arith, few))
 
 -- ---- what a reader keeps
 
-rows_wait : (ps : List Piece) (w left : List ℕ) → BeginsAtFeed left → AreWaiting ps w → Waits stage.Rows ps w left
-rows_wait ps [] left feed waiting = tt
-rows_wait ps (b ∷ w) left feed waiting = (feed, waiting)
-
-pub kept_rows : (fs : List Firing) (ps : List Piece) (w left : List ℕ) → BeginsAtFeed left → AreWaiting ps w → AreRead fs → IsKept stage.Rows fs ps w left
-kept_rows fs ps w left feed waiting read = record {
-  kept = (waiting_leads ps w waiting left feed, read);
-  waits = rows_wait ps w left feed waiting;
-}
-
-pub header_none : (ps : List Piece) (w left : List ℕ) → Waits stage.Header ps w left → w ≡ []
-header_none ps [] left h = refl
-header_none ps (b ∷ w) left h = absurd h
-
-pub rows_feed : (fs : List Firing) (ps : List Piece) (w left : List ℕ) → IsKept stage.Rows fs ps w left → BeginsAtFeed left
-rows_feed fs ps [] left h = h.kept.0
-rows_feed fs ps (b ∷ w) left h = h.waits.0
-
-pub rows_waiting : (ps : List Piece) (w left : List ℕ) → Waits stage.Rows ps w left → AreWaiting ps w
-rows_waiting ps [] left h = tt
-rows_waiting ps (b ∷ w) left h = h.1
-
 -- more at the end of what is left
-waits_more : (s : Stage) (ps : List Piece) (w x more : List ℕ) → Waits s ps w x → Waits s ps w (x ++ more) × (unread w (x ++ more) ≡ unread w x ++ more)
-waits_more s ps [] x more h = (tt, refl)
-waits_more stage.Header ps (b ∷ w) x more h = absurd h
-waits_more (stage.Refused e) ps (b ∷ w) x more h = absurd h
-waits_more stage.Rows ps (b ∷ w) x more ((after, is), pieces) =
-    let feed : BeginsAtFeed (x ++ more) = (after ++ more, ap (λ (l : List ℕ). l ++ more) is) in
+pub keeps_more : (s : Stage) (fs : List Firing) (ps : List Piece) (w x more : List ℕ) → IsKeptAt s fs ps w x → IsKeptAt s fs ps w (x ++ more)
+keeps_more stage.Header fs ps w x more h = h
+keeps_more stage.Rows fs ps w x more ((after, is), h) = ((after ++ more, ap (λ (l : List ℕ). l ++ more) is), h)
+keeps_more (stage.Refused e) fs ps w x more h = h
+
+unread_after : (w x more : List ℕ) → BeginsAtFeed x → unread w (x ++ more) ≡ unread w x ++ more
+unread_after [] x more feed = refl
+unread_after (b ∷ w) x more (after, is) =
     let own : drop 1 (x ++ more) ≡ drop 1 x ++ more = subst (λ (l : List ℕ). drop 1 (l ++ more) ≡ drop 1 l ++ more) (sym is) refl in
-    ((feed, pieces), ap (λ (l : List ℕ). b ∷ (w ++ l)) own ∙ ap (λ (l : List ℕ). b ∷ l) (sym (append_assoc w (drop 1 x) more)))
+    ap (λ (l : List ℕ). b ∷ (w ++ l)) own ∙ ap (λ (l : List ℕ). b ∷ l) (sym (append_assoc w (drop 1 x) more))
 
-pub keeps_more : (s : Stage) (fs : List Firing) (ps : List Piece) (w x more : List ℕ) → IsKept s fs ps w x → IsKept s fs ps w (x ++ more)
-keeps_more s fs ps w x more h =
-    let (waits, is) = waits_more s ps w x more h.waits in
-    record { kept = rw is (kept_more s fs (unread w x) more h.kept); waits = waits }
+unread_more : (s : Stage) (fs : List Firing) (ps : List Piece) (w x more : List ℕ) → IsKeptAt s fs ps w x → unread w (x ++ more) ≡ unread w x ++ more
+unread_more stage.Header fs ps w x more (none, empty) = rw empty refl
+unread_more stage.Rows fs ps w x more (feed, h) = unread_after w x more feed
+unread_more (stage.Refused e) fs ps w x more empty = rw empty refl
 
-pub reads_more : (s : Stage) (fs : List Firing) (ps : List Piece) (w x more rest : List ℕ) → Waits s ps w x → reads_at s fs (unread w (x ++ more) ++ rest) ≡ reads_at s fs (unread w x ++ (more ++ rest))
+pub reads_more : (s : Stage) (fs : List Firing) (ps : List Piece) (w x more rest : List ℕ) → IsKeptAt s fs ps w x → reads_at s fs (unread w (x ++ more) ++ rest) ≡ reads_at s fs (unread w x ++ (more ++ rest))
 reads_more s fs ps w x more rest h =
-    let (waits, is) = waits_more s ps w x more h in
-    ap (λ (l : List ℕ). reads_at s fs (l ++ rest)) is ∙ ap (reads_at s fs) (append_assoc (unread w x) more rest)
+    ap (λ (l : List ℕ). reads_at s fs (l ++ rest)) (unread_more s fs ps w x more h) ∙ ap (reads_at s fs) (append_assoc (unread w x) more rest)
 
 -- a front of what is left
-front_feed : (x : List ℕ) (at : ℕ) → (0 < length x → 0 < at) → BeginsAtFeed x → BeginsAtFeed (take at x)
-front_feed x zero some (after, is) = absurd (omega (arith, some (omega (arith, ap length is))))
-front_feed x (suc at) some (after, is) = (take at after, ap (take (suc at)) is)
+pub keeps_front : (s : Stage) (fs : List Firing) (ps : List Piece) (w x : List ℕ) (at : ℕ) → (0 < length x → 0 < at) → IsKeptAt s fs ps w x → IsKeptAt s fs ps w (take at x)
+keeps_front stage.Header fs ps w x at some h = h
+keeps_front stage.Rows fs ps w x zero some ((after, is), h) = absurd (omega (arith, some (omega (arith, ap length is))))
+keeps_front stage.Rows fs ps w x (suc at) some ((after, is), h) = ((take at after, ap (take (suc at)) is), h)
+keeps_front (stage.Refused e) fs ps w x at some h = h
 
-front_waits : (s : Stage) (ps : List Piece) (w x : List ℕ) (at : ℕ) → (0 < length x → 0 < at) → Waits s ps w x → Waits s ps w (take at x)
-front_waits s ps [] x at some h = tt
-front_waits stage.Header ps (b ∷ w) x at some h = absurd h
-front_waits (stage.Refused e) ps (b ∷ w) x at some h = absurd h
-front_waits stage.Rows ps (b ∷ w) x at some ((after, is), pieces) = (front_feed x at some (after, is), pieces)
-
-front_kept : (s : Stage) (fs : List Firing) (ps : List Piece) (w x : List ℕ) (at : ℕ) → (0 < length x → 0 < at) → IsKept s fs ps w x → IsKeptAt s fs (unread w (take at x))
-front_kept s fs ps [] x at some h = kept_front s fs x at some h.kept
-front_kept stage.Header fs ps (b ∷ w) x at some h = absurd h.waits
-front_kept (stage.Refused e) fs ps (b ∷ w) x at some h = absurd h.waits
-front_kept stage.Rows fs ps (b ∷ w) x at some h = (feed_leads (b ∷ w) h.waits.1.0 (take at x) (front_feed x at some h.waits.0), h.kept.1)
-
-pub keeps_front : (s : Stage) (fs : List Firing) (ps : List Piece) (w x : List ℕ) (at : ℕ) → (0 < length x → 0 < at) → IsKept s fs ps w x → IsKept s fs ps w (take at x)
-keeps_front s fs ps w x at some h = record {
-  kept = front_kept s fs ps w x at some h;
-  waits = front_waits s ps w x at some h.waits;
-}
-
-pub row_left : (s : Stage) (fs : List Firing) (ps : List Piece) (w x : List ℕ) (at : ℕ) (rest : List ℕ) → (0 < length x → 0 < at) → Waits s ps w x → reads_at s fs (unread w (take at x) ++ (drop at x ++ rest)) ≡ reads_at s fs (unread w x ++ rest)
+pub row_left : (s : Stage) (fs : List Firing) (ps : List Piece) (w x : List ℕ) (at : ℕ) (rest : List ℕ) → (0 < length x → 0 < at) → IsKeptAt s fs ps w x → reads_at s fs (unread w (take at x) ++ (drop at x ++ rest)) ≡ reads_at s fs (unread w x ++ rest)
 row_left s fs ps w x at rest some h =
-    sym (reads_more s fs ps w (take at x) (drop at x) rest (front_waits s ps w x at some h)) ∙ ap (λ (l : List ℕ). reads_at s fs (unread w l ++ rest)) (take-append-drop at x)
+    sym (reads_more s fs ps w (take at x) (drop at x) rest (keeps_front s fs ps w x at some h)) ∙ ap (λ (l : List ℕ). reads_at s fs (unread w l ++ rest)) (take-append-drop at x)
 
 -- ---- a block that was added to what is left
 
 pub added_kept : (r : Result (Unit {0}) AllocError) (s : Stage) (fs : List Firing) (ps : List Piece) (w x block y : List ℕ) → BeginsAtFeed block
-    → OnOk r ((bytes : List ℕ) → block ≡ 10 ∷ bytes → y ≡ x ++ bytes) → OnErr r (y ≡ x) → IsKept s fs ps w x → IsKept s fs ps w y
-added_kept (Ok _) s fs ps w x block y (bytes, is) added refused h = subst (IsKept s fs ps w) (sym (added bytes is)) (keeps_more s fs ps w x bytes h)
-added_kept (Err e) s fs ps w x block y feed added refused h = subst (IsKept s fs ps w) (sym refused) h
+    → OnOk r ((bytes : List ℕ) → block ≡ 10 ∷ bytes → y ≡ x ++ bytes) → OnErr r (y ≡ x) → IsKeptAt s fs ps w x → IsKeptAt s fs ps w y
+added_kept (Ok _) s fs ps w x block y (bytes, is) added refused h = subst (IsKeptAt s fs ps w) (sym (added bytes is)) (keeps_more s fs ps w x bytes h)
+added_kept (Err e) s fs ps w x block y feed added refused h = subst (IsKeptAt s fs ps w) (sym refused) h
 
-pub added_reads : (r : Result (Unit {0}) AllocError) (s : Stage) (fs : List Firing) (ps : List Piece) (w x block y : List ℕ) → Waits s ps w x → OnOk r ((bytes : List ℕ) → block ≡ 10 ∷ bytes → y ≡ x ++ bytes)
+pub added_reads : (r : Result (Unit {0}) AllocError) (s : Stage) (fs : List Firing) (ps : List Piece) (w x block y : List ℕ) → IsKeptAt s fs ps w x → OnOk r ((bytes : List ℕ) → block ≡ 10 ∷ bytes → y ≡ x ++ bytes)
     → OnOk r ((bytes rest : List ℕ) → block ≡ 10 ∷ bytes → reads_at s fs (unread w y ++ rest) ≡ reads_at s fs (unread w x ++ (bytes ++ rest)))
 added_reads (Ok _) s fs ps w x block y h added = λ bytes rest is. ap (λ (l : List ℕ). reads_at s fs (unread w l ++ rest)) (added bytes is) ∙ reads_more s fs ps w x bytes rest h
 added_reads (Err e) s fs ps w x block y h added = tt

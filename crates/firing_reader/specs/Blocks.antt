@@ -30,9 +30,3 @@ AreRead firings = (rows : List (List (List ℕ))) × (rows_of 1 0 rows ≡ Ok fi
 -- the bytes begin at a line feed
 abbrev pub BeginsAtFeed : List ℕ → Type 0
 BeginsAtFeed bytes = (after : List ℕ) × (bytes ≡ 10 ∷ after)
-
--- what is there at each stage
-abbrev pub IsKeptAt : Stage → List Firing → List ℕ → Type 0
-IsKeptAt Header firings left = firings ≡ []
-IsKeptAt Rows firings left = BeginsAtFeed left × AreRead firings
-IsKeptAt (Refused e) firings left = Unit {0}

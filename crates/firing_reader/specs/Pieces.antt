@@ -3,10 +3,11 @@ use Rattle.std.specs.Prelude.{◌≡◌, ◌<◌, ℕ, List, [], ◌∷◌, ◌+
 use Rattle.firing_reader.specs.declared.blocks.Stage.{Stage}
 use Rattle.firing_reader.specs.declared.blocks.Stage.TheVariants.{Header, Rows, Refused}
 use Rattle.firing_reader.specs.declared.pieces.Piece.{Piece}
+use Rattle.firing_reader.specs.declared.waiting.Progress.{Progress}
 use Rattle.firings.specs.declared.firing.Firing.{Firing}
 use Rattle.firing_reader.specs.Plain.{BeginsAtEnd, IsEnd, ReadsRows}
 use Rattle.firings.specs.Firings.{last_number}
-use Rattle.firing_reader.specs.Blocks.{BeginsAtFeed, IsKeptAt}
+use Rattle.firing_reader.specs.Blocks.{AreRead, BeginsAtFeed}
 
 -- from a number the numbers of these firings rise to another
 unfoldable pub Rises : ℕ → List Firing → ℕ → Type 0
@@ -46,16 +47,19 @@ abbrev pub unread : List ℕ → List ℕ → List ℕ
 unread [] left = left
 unread (b ∷ bytes) left = b ∷ (bytes ++ drop 1 left)
 
--- only rows wait, and there is a line feed before what is left
-abbrev pub Waits : Stage → List Piece → List ℕ → List ℕ → Type 0
-Waits stage pieces [] left = Unit {0}
-Waits Header pieces (b ∷ bytes) left = ⊥
-Waits Rows pieces (b ∷ bytes) left =
-    BeginsAtFeed left × (BeginsAtFeed (b ∷ bytes) × ArePieces pieces (b ∷ bytes))
-Waits (Refused e) pieces (b ∷ bytes) left = ⊥
+-- rows that were read in pieces, if there are bytes that wait
+abbrev pub AreWaiting : List Piece → List ℕ → Type 0
+AreWaiting pieces [] = Unit {0}
+AreWaiting pieces (b ∷ bytes) = BeginsAtFeed (b ∷ bytes) × ArePieces pieces (b ∷ bytes)
 
--- what a reader keeps at each stage, with the rows that wait
-pub record IsKept (stage : Stage) (firings : List Firing) (pieces : List Piece)
-    (waiting left : List ℕ) : Type 0 where
-  pub kept : IsKeptAt stage firings (unread waiting left)
-  pub waits : Waits stage pieces waiting left
+-- what there is at each stage: only rows wait, and have a line feed before what is left
+abbrev pub IsKeptAt : Stage → List Firing → List Piece → (waiting left : List ℕ) → Type 0
+IsKeptAt Header firings pieces waiting left = (firings ≡ []) × (waiting ≡ [])
+IsKeptAt Rows firings pieces waiting left =
+    BeginsAtFeed left × (AreWaiting pieces waiting × AreRead firings)
+IsKeptAt (Refused e) firings pieces waiting left = waiting ≡ []
+
+-- what a reader keeps
+abbrev pub IsKept : Stage → Progress → Type 0
+IsKept stage p =
+    IsKeptAt stage p.firings p.waiting.pieces.items p.waiting.bytes.items p.left.items

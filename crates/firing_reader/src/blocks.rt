@@ -5,23 +5,21 @@ ghost use Rattle.std.specs.Prelude.{IfOk, IfErr, MatchBool, length, true};
 ghost use Rattle.firing_reader.specs.{Vocabulary.Memory, Gives.Gives, Gives.GivesBy};
 ghost use Rattle.firings.specs.Firings.{IsTrace};
 ghost use Rattle.firing_reader.specs.Trace.{trace_of};
-ghost use Rattle.firing_reader.specs.Blocks.{AreRead, BeginsAtFeed};
+ghost use Rattle.firing_reader.specs.Blocks.{BeginsAtFeed};
 ghost use Rattle.firing_reader.specs.Steps.Blocks.{Begins, IsFaultOf};
 ghost use Rattle.firing_reader.specs.Blocks.{reads, reads_at};
 ghost use Rattle.firing_reader.specs.Plain.{rows_in};
-ghost use Rattle.firing_reader.specs.Pieces.{IsKept, unread};
-ghost use Rattle.firing_reader.specs.Steps.Pieces.{AreWaiting};
+ghost use Rattle.firing_reader.specs.Pieces.{AreWaiting, IsKept, unread};
 ghost use Rattle.firing_reader.specs.Steps.Plain.{GoesOn};
-ghost use Rattle.firing_reader.specs.declared.blocks.Stage.TheVariants.{Refused};
+ghost use Rattle.firing_reader.specs.declared.blocks.Stage.TheVariants.{Refused, Rows};
 
 use crate::builder::FiringsBuilder;
 use crate::fault::TraceFault;
 use crate::header::{HEADER, MARK, after_header, after_mark};
-use crate::pieces::{Piece, no_pieces};
 use crate::plain::front::is_end;
 use crate::reading::{read_records, read_rest, read_whole};
 use crate::row_ends::end_of_rows;
-use crate::waiting::{Context, Waiting, add_waiting, give_back, keep_waiting, read_pieces};
+use crate::waiting::{Progress, add_waiting, give_back, keep_waiting, read_pieces};
 use crate::whole_rows::{keep_from, read_rows};
 use firings::Trace;
 use keyed_hash::HashKey;
@@ -55,20 +53,12 @@ enum Stage {
 /// ```
 #[derive(Drop)]
 pub struct Reader {
-    alloc: Global,
-    hash_key: HashKey,
     stage: Stage,
-    firings: FiringsBuilder,
-    // Rows that several workers have read, and that come after the firings.
-    waiting: Waiting,
-    // For the pieces of the rows that they read next.
-    pieces: Vec<Piece>,
-    // What is not read yet. Rows begin at the line feed before the first of them.
-    left: Vec<u8>,
-    // How many bytes there are at least before some are read.
+    progress: Progress,
+    // Nothing is read before there are this many bytes.
     least: usize,
-    // How many bytes there are at least before more are read. A row that isn't whole waits for as
-    // many bytes again, so that a long one isn't scanned at each block.
+    // Nothing more is read before there are this many. A row that isn't whole waits for as many
+    // bytes again, so that a long one isn't scanned at each block.
     enough: usize,
 }
 
@@ -79,12 +69,11 @@ impl Model for Reader {
 
     ghost view = { λ r. record {
       stage = r.stage;
-      firings = r.firings;
-      left = unread r.waiting.bytes.items r.left.items;
+      firings = r.progress.firings;
+      left = unread r.progress.waiting.bytes.items r.progress.left.items;
     } };
 
-    ghost invariant = { λ r. IsKept r.stage r.firings r.waiting.pieces.items
-        r.waiting.bytes.items r.left.items };
+    ghost invariant = { λ r. IsKept r.stage r.progress };
 }
 
 impl Reader {
@@ -98,35 +87,16 @@ impl Reader {
     ) -> Result<Reader, AllocError>
         ensures { IfOk result (λ r. (rest : List ℕ) → reads r rest ≡ trace_of rest) }
     {
-        let firings = FiringsBuilder::new(alloc, hash_key)?;
-        let (waiting, pieces) = match rooms_for(alloc, hash_key, workers) {
-            Ok(rooms) => rooms,
-            Err(refused) => {
-                drop(firings);
-                return Err(refused);
-            }
-        };
+        let progress = Progress::new(alloc, hash_key, workers)?;
         Ok(Reader {
-            alloc,
-            hash_key,
             stage: Stage::Header,
-            firings,
-            waiting,
-            pieces,
-            left: Vec::new(alloc),
+            progress,
             least,
             enough: least,
         })
     }
 
     /// Takes the next block. If memory is refused, the reader can only return that.
-    ///
-    /// ```text
-    /// let mut reader = Reader::new(alloc, hash_key, 4, 1 << 22)?;
-    /// reader.take(&rt, b"number,cp")?;
-    /// reader.take(&rt, b"u,")?; // and so on
-    /// let trace = reader.finish(&rt)?; // as `read_trace` returns for all bytes at once
-    /// ```
     pub fn take<R: Threads>(&mut self, rt: &R, block: &[u8]) -> Result<(), AllocError>
         ensures taken { OnOk result
             ((rest : List ℕ) → reads self.new rest ≡ reads self.old (block.now ++ rest)) }
@@ -135,14 +105,8 @@ impl Reader {
         if let Stage::Refused(_) = self.stage {
             return Ok(());
         }
-        if self.left.extend_from_slice(block).is_err() {
-            return refuse(
-                self.alloc,
-                &mut self.stage,
-                &mut self.waiting,
-                &mut self.left,
-                TraceFault::Memory,
-            );
+        if self.progress.left.extend_from_slice(block).is_err() {
+            return refuse(&mut self.stage, &mut self.progress, TraceFault::Memory);
         }
         self.read(rt)
     }
@@ -176,11 +140,11 @@ impl Reader {
             × ((rest : List ℕ) → reads self.new (row ++ rest) ≡ reads self.old rest)) }
         ensures refused { OnErr result (self.new ≡ self.old) }
     {
-        let at = after_last_end(&self.left);
+        let at = after_last_end(&self.progress.left);
         block.clear();
         block.push(b'\n')?;
-        block.extend_from_slice(&self.left[at..])?;
-        self.left.truncate(at);
+        block.extend_from_slice(&self.progress.left[at..])?;
+        self.progress.left.truncate(at);
         Ok(())
     }
 
@@ -197,7 +161,7 @@ impl Reader {
         ensures refused { OnErr result (self.new ≡ self.old) }
     {
         match self.stage {
-            Stage::Header | Stage::Rows => add_block(&mut self.left, block),
+            Stage::Header | Stage::Rows => add_block(&mut self.progress.left, block),
             Stage::Refused(_) => Ok(()),
         }
     }
@@ -207,36 +171,17 @@ impl Reader {
         ensures { Gives result (reads self []) }
     {
         let Reader {
-            alloc,
-            hash_key,
             stage,
-            mut firings,
-            mut waiting,
-            mut pieces,
-            mut left,
+            mut progress,
             ..
         } = self;
-        let context = Context {
-            rt,
-            alloc,
-            hash_key,
-        };
-        let read = read_left(
-            &context,
-            stage,
-            &mut firings,
-            &mut waiting,
-            &mut pieces,
-            &mut left,
-        );
-        drop(waiting);
-        drop(pieces);
-        drop(left);
-        if let Err(fault) = read {
-            drop(firings);
-            return Err(fault);
+        match read_left(rt, stage, &mut progress) {
+            Ok(()) => Ok(Trace::of(progress.finish())),
+            Err(fault) => {
+                drop(progress);
+                Err(fault)
+            }
         }
-        Ok(Trace::of(firings.finish()))
     }
 
     /// Reads the rows that are whole, once there are as many bytes as are read at a time. If
@@ -249,34 +194,16 @@ impl Reader {
         ensures taken { OnOk result ((rest : List ℕ) → reads self.new rest ≡ reads self.old rest) }
         ensures refused { OnErr result (self.new.stage ≡ Refused Memory) }
     {
-        if self.left.len() < self.enough {
+        if self.progress.left.len() < self.enough {
             return Ok(());
         }
-        let context = Context {
-            rt,
-            alloc: self.alloc,
-            hash_key: self.hash_key,
-        };
-        match advance(
-            &context,
-            self.stage,
-            &mut self.firings,
-            &mut self.waiting,
-            &mut self.pieces,
-            &mut self.left,
-        ) {
+        match advance(rt, self.stage, &mut self.progress) {
             Ok(stage) => {
                 self.stage = stage;
-                self.enough = self.least.max(self.left.len().saturating_mul(2));
+                self.enough = self.least.max(self.progress.left.len().saturating_mul(2));
                 Ok(())
             }
-            Err(fault) => refuse(
-                self.alloc,
-                &mut self.stage,
-                &mut self.waiting,
-                &mut self.left,
-                fault,
-            ),
+            Err(fault) => refuse(&mut self.stage, &mut self.progress, fault),
         }
     }
 }
@@ -306,31 +233,6 @@ pub fn read_trace_by<R: Threads>(
     }
 }
 
-// Room for the pieces that this many workers read, and for as many that wait. A single worker reads
-// none. Of more, one thread adds those that wait.
-fn rooms_for(
-    alloc: Global,
-    hash_key: HashKey,
-    workers: u32,
-) -> Result<(Waiting, Vec<Piece>), AllocError>
-    ensures { IfOk result (λ rooms. rooms.0.bytes.items ≡ []) }
-{
-    let count = if workers < 2 { 0 } else { (workers - 1).max(2) };
-    let pieces = no_pieces(alloc, hash_key, count)?;
-    let others = match no_pieces(alloc, hash_key, count) {
-        Ok(others) => others,
-        Err(refused) => {
-            drop(pieces);
-            return Err(refused);
-        }
-    };
-    let waiting = Waiting {
-        pieces: others,
-        bytes: Vec::new(alloc),
-    };
-    Ok((waiting, pieces))
-}
-
 // How many bytes there are up to the last one that ends a row, and with it; all of them if there
 // is none.
 fn after_last_end(bytes: &[u8]) -> usize
@@ -345,16 +247,6 @@ fn after_last_end(bytes: &[u8]) -> usize
     bytes.len()
 }
 
-// Whether these bytes are one line feed.
-fn is_feed(bytes: &[u8]) -> bool
-    ensures { result ≡ true → bytes.now ≡ 10 ∷ [] }
-{
-    match bytes {
-        [b'\n'] => true,
-        _ => false,
-    }
-}
-
 // Adds the bytes of a block after the line feed that it begins with. If they come after a line
 // feed, the block is kept.
 fn add_block(left: &mut Vec<u8>, block: &mut Vec<u8>) -> Result<(), AllocError>
@@ -363,7 +255,7 @@ fn add_block(left: &mut Vec<u8>, block: &mut Vec<u8>) -> Result<(), AllocError>
         → left.new.items ≡ left.old.items ++ bytes) }
     ensures refused { OnErr result (left.new.items ≡ left.old.items) }
 {
-    if is_feed(left) {
+    if left.as_slice() == b"\n".as_slice() {
         swap(left, block);
         return Ok(());
     }
@@ -371,21 +263,16 @@ fn add_block(left: &mut Vec<u8>, block: &mut Vec<u8>) -> Result<(), AllocError>
 }
 
 // Keeps nothing but a fault, and returns it if memory was refused.
-fn refuse(
-    alloc: Global,
-    stage: &mut Stage,
-    waiting: &mut Waiting,
-    left: &mut Vec<u8>,
-    fault: TraceFault,
-) -> Result<(), AllocError>
+fn refuse(stage: &mut Stage, progress: &mut Progress, fault: TraceFault) -> Result<(), AllocError>
     ensures stage { stage.new ≡ Refused fault }
-    ensures none { waiting.new.bytes.items ≡ [] }
+    ensures none { progress.new.waiting.bytes.items ≡ [] }
     ensures memory { OnErr result (fault ≡ Memory) }
     ensures other { OnOk result (fault ≢ Memory) }
 {
+    let alloc = progress.firings.alloc();
     *stage = Stage::Refused(fault);
-    waiting.bytes = Vec::new(alloc);
-    *left = Vec::new(alloc);
+    progress.waiting.bytes = Vec::new(alloc);
+    progress.left = Vec::new(alloc);
     match fault {
         TraceFault::Memory => Err(AllocError),
         _ => Ok(()),
@@ -394,11 +281,7 @@ fn refuse(
 
 // Reads the header, and if csv has to read it the whole rows after it too. Returns false if the
 // header isn't whole yet.
-fn read_header(
-    alloc: Global,
-    firings: &mut FiringsBuilder,
-    left: &mut Vec<u8>,
-) -> Result<bool, TraceFault>
+fn read_header(firings: &mut FiringsBuilder, left: &mut Vec<u8>) -> Result<bool, TraceFault>
     requires { firings.old ≡ [] }
     ensures found { IfOk result (λ found. MatchBool found
         (Begins left.old.items firings.new left.new.items)
@@ -418,7 +301,7 @@ fn read_header(
     if end <= MARK.len() {
         return Ok(false);
     }
-    if !read_records(alloc, firings, &left[..end])? {
+    if !read_records(firings, &left[..end])? {
         return Ok(false);
     }
     keep_from(left, end - 1);
@@ -426,65 +309,59 @@ fn read_header(
 }
 
 // Reads the rows that are whole by all workers. They wait, and this thread adds those that waited.
-fn read_rows_by<R: Threads>(
-    context: &Context<R>,
-    firings: &mut FiringsBuilder,
-    waiting: &mut Waiting,
-    pieces: &mut Vec<Piece>,
-    left: &mut Vec<u8>,
-) -> Result<(), TraceFault>
-    requires feed { BeginsAtFeed left.old.items }
-    requires waiting { AreWaiting waiting.old.pieces.items waiting.old.bytes.items }
-    requires are_read { AreRead firings.old }
-    ensures read { OnOk result (GoesOn firings.old (unread waiting.old.bytes.items left.old.items)
-        firings.new (unread waiting.new.bytes.items left.new.items)) }
-    ensures feed { OnOk result (BeginsAtFeed left.new.items) }
-    ensures waiting { OnOk result
-        (AreWaiting waiting.new.pieces.items waiting.new.bytes.items) }
-    ensures fault { IfErr result (λ e. IsFaultOf e
-        (λ tail. rows_in firings.old (unread waiting.old.bytes.items left.old.items ++ tail))) }
+fn read_rows_by<R: Threads>(rt: &R, progress: &mut Progress) -> Result<(), TraceFault>
+    requires { IsKept Rows progress.old }
+    ensures read { OnOk result (GoesOn progress.old.firings
+        (unread progress.old.waiting.bytes.items progress.old.left.items) progress.new.firings
+        (unread progress.new.waiting.bytes.items progress.new.left.items)) }
+    ensures feed { OnOk result (BeginsAtFeed progress.new.left.items) }
+    ensures waiting { OnOk result (AreWaiting progress.new.waiting.pieces.items
+        progress.new.waiting.bytes.items) }
+    ensures fault { IfErr result (λ e. IsFaultOf e (λ tail. rows_in progress.old.firings
+        (unread progress.old.waiting.bytes.items progress.old.left.items ++ tail))) }
 {
-    if !pieces.is_empty() {
-        read_pieces(context, pieces, left, firings, waiting)?;
-        if waiting.bytes.len() <= 1 {
-            keep_waiting(waiting, pieces, left)?;
+    if !progress.pieces.is_empty() {
+        read_pieces(
+            rt,
+            &mut progress.pieces,
+            &progress.left,
+            &mut progress.firings,
+            &mut progress.waiting,
+        )?;
+        if progress.waiting.bytes.len() <= 1 {
+            keep_waiting(
+                &mut progress.waiting,
+                &mut progress.pieces,
+                &mut progress.left,
+            )?;
             return Ok(());
         }
     }
-    give_back(waiting, left)?;
-    read_rows(context.alloc, firings, left)
+    give_back(&mut progress.waiting, &mut progress.left)?;
+    read_rows(&mut progress.firings, &mut progress.left)
 }
 
 // Reads what is whole, and returns what is to be read next.
-fn advance<R: Threads>(
-    context: &Context<R>,
-    stage: Stage,
-    firings: &mut FiringsBuilder,
-    waiting: &mut Waiting,
-    pieces: &mut Vec<Piece>,
-    left: &mut Vec<u8>,
-) -> Result<Stage, TraceFault>
-    requires { IsKept stage firings.old waiting.old.pieces.items waiting.old.bytes.items
-        left.old.items }
-    ensures kept { IfOk result (λ next. IsKept next firings.new waiting.new.pieces.items
-        waiting.new.bytes.items left.new.items) }
-    ensures read { IfOk result (λ next. (tail : List ℕ)
-        → reads_at next firings.new (unread waiting.new.bytes.items left.new.items ++ tail)
-        ≡ reads_at stage firings.old (unread waiting.old.bytes.items left.old.items ++ tail)) }
-    ensures fault { IfErr result (λ e. IsFaultOf e
-        (λ tail. reads_at stage firings.old
-        (unread waiting.old.bytes.items left.old.items ++ tail))) }
+fn advance<R: Threads>(rt: &R, stage: Stage, progress: &mut Progress) -> Result<Stage, TraceFault>
+    requires { IsKept stage progress.old }
+    ensures kept { IfOk result (λ next. IsKept next progress.new) }
+    ensures read { IfOk result (λ next. (tail : List ℕ) → reads_at next progress.new.firings
+        (unread progress.new.waiting.bytes.items progress.new.left.items ++ tail)
+        ≡ reads_at stage progress.old.firings
+        (unread progress.old.waiting.bytes.items progress.old.left.items ++ tail)) }
+    ensures fault { IfErr result (λ e. IsFaultOf e (λ tail. reads_at stage progress.old.firings
+        (unread progress.old.waiting.bytes.items progress.old.left.items ++ tail))) }
 {
     match stage {
         Stage::Header => {
-            if !read_header(context.alloc, firings, left)? {
+            if !read_header(&mut progress.firings, &mut progress.left)? {
                 return Ok(stage);
             }
-            read_rows_by(context, firings, waiting, pieces, left)?;
+            read_rows_by(rt, progress)?;
             Ok(Stage::Rows)
         }
         Stage::Rows => {
-            read_rows_by(context, firings, waiting, pieces, left)?;
+            read_rows_by(rt, progress)?;
             Ok(stage)
         }
         Stage::Refused(_) => Ok(stage),
@@ -492,41 +369,26 @@ fn advance<R: Threads>(
 }
 
 // Reads all rows that are left, after the last block.
-fn read_last_rows(
-    alloc: Global,
-    firings: &mut FiringsBuilder,
-    waiting: &mut Waiting,
-    left: &mut Vec<u8>,
-) -> Result<(), TraceFault>
-    requires feed { BeginsAtFeed left.old.items }
-    requires waiting { AreWaiting waiting.old.pieces.items waiting.old.bytes.items }
-    requires are_read { AreRead firings.old }
-    ensures { GivesBy (λ _. firings.new) result
-        (rows_in firings.old (unread waiting.old.bytes.items left.old.items)) }
+fn read_last_rows(progress: &mut Progress) -> Result<(), TraceFault>
+    requires { IsKept Rows progress.old }
+    ensures { GivesBy (λ _. progress.new.firings) result (rows_in progress.old.firings
+        (unread progress.old.waiting.bytes.items progress.old.left.items)) }
 {
-    add_waiting(alloc, firings, waiting)?;
-    give_back(waiting, left)?;
-    read_rest(alloc, firings, left)
+    add_waiting(&mut progress.firings, &mut progress.waiting)?;
+    give_back(&mut progress.waiting, &mut progress.left)?;
+    read_rest(&mut progress.firings, &progress.left)
 }
 
 // Reads all that is left, after the last block.
-fn read_left<R: Threads>(
-    context: &Context<R>,
-    stage: Stage,
-    firings: &mut FiringsBuilder,
-    waiting: &mut Waiting,
-    pieces: &mut Vec<Piece>,
-    left: &mut Vec<u8>,
-) -> Result<(), TraceFault>
-    requires { IsKept stage firings.old waiting.old.pieces.items waiting.old.bytes.items
-        left.old.items }
-    ensures trace { OnOk result (IsTrace firings.new) }
-    ensures read { GivesBy (λ _. firings.new) result
-        (reads_at stage firings.old (unread waiting.old.bytes.items left.old.items ++ [])) }
+fn read_left<R: Threads>(rt: &R, stage: Stage, progress: &mut Progress) -> Result<(), TraceFault>
+    requires { IsKept stage progress.old }
+    ensures trace { OnOk result (IsTrace progress.new.firings) }
+    ensures read { GivesBy (λ _. progress.new.firings) result (reads_at stage progress.old.firings
+        (unread progress.old.waiting.bytes.items progress.old.left.items ++ [])) }
 {
-    match advance(context, stage, firings, waiting, pieces, left)? {
-        Stage::Header => read_whole(context.alloc, firings, left),
-        Stage::Rows => read_last_rows(context.alloc, firings, waiting, left),
+    match advance(rt, stage, progress)? {
+        Stage::Header => read_whole(&mut progress.firings, &progress.left),
+        Stage::Rows => read_last_rows(progress),
         Stage::Refused(fault) => Err(fault),
     }
 }

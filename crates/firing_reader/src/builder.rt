@@ -1,6 +1,6 @@
 //! Firings that are being read.
 
-ghost use Rattle.std.specs.Prelude.{◌≡◌, ◌<◌, ◌≤◌, ◌++◌, ◌∷◌, [], true, false, All, IfOk, IfSome};
+ghost use Rattle.std.specs.Prelude.{◌≡◌, ◌<◌, ◌≤◌, ◌++◌, ◌∷◌, [], All, IfOk, IfSome};
 ghost use Rattle.std.specs.Prelude.{MatchOption, length, map, option_map, slice_get};
 ghost use Rattle.firings.specs.{declared.firing.Firing.Firing};
 ghost use Rattle.firing_reader.specs.{Plain.ReadsRow};
@@ -16,6 +16,9 @@ use firings::{Firing, Firings, OwnerEntry, ProbeEntry, Row};
 use keyed_hash::HashKey;
 use std::alloc::{AllocError, Global};
 use std::marker::Model;
+
+// More owners and probes than this are forgotten with their firings.
+const MAX_KEPT: usize = 1024;
 
 /// The firings of the rows that were read. Contracts see the list of them.
 #[derive(Drop)]
@@ -57,6 +60,11 @@ impl FiringsBuilder {
         })
     }
 
+    /// Where its memory comes from.
+    pub(crate) fn alloc(&self) -> Global {
+        self.alloc
+    }
+
     /// These firings, to which none is added any more.
     pub(crate) fn finish(self) -> Firings
         ensures { result ≡ self }
@@ -71,26 +79,17 @@ impl FiringsBuilder {
         Firings::of(owners.into_units(), probes.into_units(), args, rows)
     }
 
-    /// Forgets all firings. Owners and probes stay, as others are likely to have the same.
+    /// Forgets all firings. Owners and probes stay unless they are many, as others are likely to
+    /// have the same.
     pub(crate) fn clear(&mut self)
         ensures { self.new ≡ [] }
     {
         self.rows.clear();
         self.args.clear();
-    }
-
-    /// Forgets all firings, their owners and their probes.
-    pub(crate) fn clear_all(&mut self)
-        ensures { self.new ≡ [] }
-    {
-        self.clear();
-        self.owners.clear();
-        self.probes.clear();
-    }
-
-    /// How many owners and probes are kept.
-    pub(crate) fn unit_count(&self) -> usize {
-        self.owners.len().saturating_add(self.probes.len())
+        if self.owners.len().saturating_add(self.probes.len()) > MAX_KEPT {
+            self.owners.clear();
+            self.probes.clear();
+        }
     }
 
     /// How many there are.
@@ -125,15 +124,9 @@ impl FiringsBuilder {
         ensures { MatchOption result (self.new ≡ self.old)
             (λ _. self.new ≡ self.old ++ firing.now ∷ []) }
     {
-        let Some(owner) = keep_owner(&mut self.owners, self.alloc, firing) else {
-            return None;
-        };
-        let Some(probe) = keep_probe(&mut self.probes, self.alloc, firing) else {
-            return None;
-        };
-        let Some(given) = keep_arguments(&mut self.args, firing.args.stored()) else {
-            return None;
-        };
+        let owner = keep_owner(&mut self.owners, self.alloc, firing)?;
+        let probe = keep_probe(&mut self.probes, self.alloc, firing)?;
+        let given = keep_arguments(&mut self.args, firing.args.stored())?;
         let row = Row {
             number: firing.number,
             time: firing.time,
@@ -142,11 +135,7 @@ impl FiringsBuilder {
             probe,
             given,
         };
-        if push_row(&mut self.rows, row) {
-            Some(())
-        } else {
-            None
-        }
+        push_row(&mut self.rows, row)
     }
 
     /// Reads the plain row after a line feed, whose number has to be above the last, and returns
@@ -165,11 +154,8 @@ impl FiringsBuilder {
             bytes,
             last,
         )?;
-        if push_row(&mut self.rows, row) {
-            Some(rest)
-        } else {
-            None
-        }
+        push_row(&mut self.rows, row)?;
+        Some(rest)
     }
 
     /// Stores others after these: each owner and each probe of theirs is looked up once, and no
@@ -190,12 +176,12 @@ impl FiringsBuilder {
     }
 }
 
-// Adds a row, and returns whether there was memory for it.
-fn push_row(rows: &mut Vec<Row>, row: Row) -> bool
-    ensures pushed { result ≡ true → rows.new.items ≡ rows.old.items ++ row ∷ [] }
-    ensures refused { result ≡ false → rows.new.items ≡ rows.old.items }
+// Adds a row, if there is memory for it.
+fn push_row(rows: &mut Vec<Row>, row: Row) -> Option<()>
+    ensures { MatchOption result (rows.new.items ≡ rows.old.items)
+        (λ _. rows.new.items ≡ rows.old.items ++ row ∷ []) }
 {
-    rows.push(row).is_ok()
+    rows.push(row).ok()
 }
 
 // Adds rows, with the indices of their owners and probes and the starts of their arguments changed

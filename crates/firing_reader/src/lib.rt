@@ -4,14 +4,6 @@
 //! trace that the bytes write, exactly as `specs/Trace.antt` defines it, or its first fault. Rows
 //! are read where they lie in the bytes up to the first that has a quote or a fault; from there on
 //! `csv` reads them.
-//!
-//! ```text
-//! let trace = read_trace(rt.alloc(), &bytes)?;
-//! for at in 0..trace.firings().len() {
-//!     let firing = trace.firings().get(at);
-//!     println!(rt; "{} on thread {}", firing.number, firing.thread)?;
-//! }
-//! ```
 #![tactic(auto)]
 
 mod arguments;

@@ -15,9 +15,6 @@ use firings::MAX_ROWS;
 use keyed_hash::HashKey;
 use std::alloc::{AllocError, Global};
 
-// A piece that has more owners and probes than this forgets them before it is used again.
-const MAX_KEPT: usize = 1024;
-
 /// Rows that a worker reads apart from those before them.
 #[derive(Drop)]
 pub(crate) struct Piece {
@@ -46,24 +43,13 @@ pub(crate) fn no_pieces(
     Ok(pieces)
 }
 
-// Empties the firings of a piece, whose room is used again.
-fn empty(firings: &mut FiringsBuilder)
-    ensures { firings.new ≡ [] }
-{
-    if firings.unit_count() > MAX_KEPT {
-        firings.clear_all();
-    } else {
-        firings.clear();
-    }
-}
-
 /// Reads a piece apart from the firings before it.
 pub(crate) fn read_piece(piece: &mut Piece, bytes: &[u8])
     requires { BeginsAtEnd bytes.now }
     ensures piece { IsPiece bytes.now piece.new.firings piece.new.passed }
     ensures end { piece.new.end + 1 ≡ length bytes.now }
 {
-    empty(&mut piece.firings);
+    piece.firings.clear();
     let rest = read_plain(&mut piece.firings, bytes);
     piece.passed = bytes.len() - rest.len();
     piece.end = bytes.len() - 1;

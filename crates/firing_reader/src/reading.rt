@@ -48,34 +48,26 @@ fn read_rows(
 
 /// Reads rows by csv, after firings that were read before. They begin at the end of the row before
 /// the first of them.
-pub(crate) fn read_by_csv(
-    alloc: Global,
-    firings: &mut FiringsBuilder,
-    rows: &[u8],
-) -> Result<(), TraceFault>
+pub(crate) fn read_by_csv(firings: &mut FiringsBuilder, rows: &[u8]) -> Result<(), TraceFault>
     requires begins { BeginsAtEnd rows.now }
     requires few { length firings.old ≤ MAX_ROWS }
     ensures read { GivesBy (λ _. firings.new) result (rows_in firings.old rows.now) }
     ensures few { OnOk result (length firings.new ≤ MAX_ROWS) }
 {
-    let mut records = Records::new(alloc, rows);
-    let mut fields = ByteRecord::new(alloc);
+    let mut records = Records::new(firings.alloc(), rows);
+    let mut fields = ByteRecord::new(firings.alloc());
     read_rows(&mut records, &mut fields, firings)
 }
 
 /// Reads all rows that are left: plain ones where they lie. From the first row on that isn't plain,
 /// csv reads, and it alone decides what is faulty.
-pub(crate) fn read_rest(
-    alloc: Global,
-    firings: &mut FiringsBuilder,
-    bytes: &[u8],
-) -> Result<(), TraceFault>
+pub(crate) fn read_rest(firings: &mut FiringsBuilder, bytes: &[u8]) -> Result<(), TraceFault>
     requires begins { BeginsAtEnd bytes.now }
     requires few { length firings.old ≤ MAX_ROWS }
     ensures { GivesBy (λ _. firings.new) result (rows_in firings.old bytes.now) }
 {
     let rest = read_plain(firings, bytes);
-    read_by_csv(alloc, firings, rest)
+    read_by_csv(firings, rest)
 }
 
 // Reads the header of these records, and the rows after it. Returns false if there is no record.
@@ -102,11 +94,7 @@ fn read_all(
 }
 
 /// Reads the header and rows by csv. It returns false if there is no record.
-pub(crate) fn read_records(
-    alloc: Global,
-    firings: &mut FiringsBuilder,
-    bytes: &[u8],
-) -> Result<bool, TraceFault>
+pub(crate) fn read_records(firings: &mut FiringsBuilder, bytes: &[u8]) -> Result<bool, TraceFault>
     requires empty { firings.old ≡ [] }
     ensures read { IfOk result (λ found. MatchBool found (trace_of bytes.now ≡ Ok firings.new)
         ((records_of default_config (strip_bom bytes.now) ≡ []) × (firings.new ≡ []))) }
@@ -114,24 +102,20 @@ pub(crate) fn read_records(
         × (records_of default_config (strip_bom bytes.now) ≢ []))) }
     ensures few { OnOk result (length firings.new ≤ MAX_ROWS) }
 {
-    let mut records = Records::new(alloc, bytes);
-    let mut fields = ByteRecord::new(alloc);
+    let mut records = Records::new(firings.alloc(), bytes);
+    let mut fields = ByteRecord::new(firings.alloc());
     read_all(&mut records, &mut fields, firings)
 }
 
 /// Reads the bytes of a whole trace.
-pub(crate) fn read_whole(
-    alloc: Global,
-    firings: &mut FiringsBuilder,
-    bytes: &[u8],
-) -> Result<(), TraceFault>
+pub(crate) fn read_whole(firings: &mut FiringsBuilder, bytes: &[u8]) -> Result<(), TraceFault>
     requires empty { firings.old ≡ [] }
     ensures { GivesBy (λ _. firings.new) result (trace_of bytes.now) }
 {
     if let Some(rest) = after_header(bytes) {
-        return read_rest(alloc, firings, rest);
+        return read_rest(firings, rest);
     }
-    if !read_records(alloc, firings, bytes)? {
+    if !read_records(firings, bytes)? {
         return Err(TraceFault::Header);
     }
     Ok(())
@@ -150,7 +134,7 @@ pub fn read_trace(alloc: Global, bytes: &[u8]) -> Result<Trace, TraceFault>
     ensures { Gives result (trace_of bytes.now) }
 {
     let mut firings = FiringsBuilder::new(alloc, HashKey::of_seed(&[]))?;
-    match read_whole(alloc, &mut firings, bytes) {
+    match read_whole(&mut firings, bytes) {
         Ok(()) => Ok(Trace::of(firings.finish())),
         Err(fault) => {
             drop(firings);

@@ -98,10 +98,7 @@ impl Slots {
     #[inline(always)]
     pub(crate) fn near(&self, tag: u32, n: usize) -> Slot {
         let at = (tag as usize).wrapping_add(n) & self.slots.len().wrapping_sub(1);
-        match self.slots.get(at) {
-            Some(slot) => *slot,
-            None => Slot::EMPTY,
-        }
+        *self.slots.get(at).unwrap_or(&Slot::EMPTY)
     }
 
     /// Notes a new index, or returns None if memory is refused. If no slot near its first is

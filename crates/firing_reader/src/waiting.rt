@@ -1,29 +1,22 @@
 //! Reading bytes in pieces by several workers, while the pieces before them are added to the
 //! firings.
 
-ghost use Rattle.std.specs.Prelude.{◌≡◌, ◌+◌, ◌++◌, ◌∷◌, [], IfErr, OnOk, length};
+ghost use Rattle.std.specs.Prelude.{◌≡◌, ◌+◌, ◌++◌, ◌∷◌, [], IfErr, IfOk, OnOk, length};
 ghost use Rattle.firing_reader.specs.Blocks.{AreRead, BeginsAtFeed};
-ghost use Rattle.firing_reader.specs.Pieces.{ArePieces, IsPiece, unread};
+ghost use Rattle.firing_reader.specs.Pieces.{ArePieces, AreWaiting, IsPiece, unread};
 ghost use Rattle.firing_reader.specs.Plain.{BeginsAtEnd, rows_in};
 ghost use Rattle.firing_reader.specs.Steps.{Blocks.IsFaultOf};
-ghost use Rattle.firing_reader.specs.Steps.Pieces.{Adds, AreWaiting};
+ghost use Rattle.firing_reader.specs.Steps.Pieces.{Adds};
 
 use crate::builder::FiringsBuilder;
 use crate::fault::TraceFault;
-use crate::pieces::{Cut, Piece, add_pieces, cut_near, read_piece};
+use crate::pieces::{Cut, Piece, add_pieces, cut_near, no_pieces, read_piece};
 use crate::whole_rows::{keep_from, read_rows};
+use firings::Firings;
 use keyed_hash::HashKey;
 use std::alloc::{AllocError, Global};
 use std::mem::swap;
 use std::thread::{Threads, join_mut};
-
-/// Where the threads and the memory of a reading come from.
-#[derive(Drop)]
-pub(crate) struct Context<'a, R> {
-    pub(crate) rt: &'a R,
-    pub(crate) alloc: Global,
-    pub(crate) hash_key: HashKey,
-}
 
 /// Rows that were read in pieces, and aren't among the firings yet.
 #[derive(Drop)]
@@ -33,9 +26,64 @@ pub(crate) struct Waiting {
     pub(crate) bytes: Vec<u8>,
 }
 
+/// How far the reading of a trace has come.
+#[derive(Drop)]
+pub(crate) struct Progress {
+    pub(crate) firings: FiringsBuilder,
+    /// Rows that several workers have read, and that come after the firings.
+    pub(crate) waiting: Waiting,
+    /// For the pieces of the rows that they read next.
+    pub(crate) pieces: Vec<Piece>,
+    /// What is not read yet. Rows begin at the line feed before the first of them.
+    pub(crate) left: Vec<u8>,
+}
+
+impl Progress {
+    /// That of a reading which has not begun. A single worker reads no pieces; of more, one thread
+    /// adds those that wait.
+    pub(crate) fn new(
+        alloc: Global,
+        hash_key: HashKey,
+        workers: u32,
+    ) -> Result<Progress, AllocError>
+        ensures none { IfOk result (λ p. p.firings ≡ []) }
+        ensures nothing_waits { IfOk result (λ p. p.waiting.bytes.items ≡ []) }
+        ensures left { IfOk result (λ p. p.left.items ≡ []) }
+    {
+        let count = if workers < 2 { 0 } else { (workers - 1).max(2) };
+        let firings = FiringsBuilder::new(alloc, hash_key)?;
+        let pieces = no_pieces(alloc, hash_key, count)?;
+        let others = no_pieces(alloc, hash_key, count)?;
+        Ok(Progress {
+            firings,
+            waiting: Waiting {
+                pieces: others,
+                bytes: Vec::new(alloc),
+            },
+            pieces,
+            left: Vec::new(alloc),
+        })
+    }
+
+    /// The firings, to which none is added any more.
+    pub(crate) fn finish(self) -> Firings
+        ensures { result ≡ self.firings }
+    {
+        let Progress {
+            firings,
+            waiting,
+            pieces,
+            left,
+        } = self;
+        drop(waiting);
+        drop(pieces);
+        drop(left);
+        firings.finish()
+    }
+}
+
 /// Adds the rows that wait to the firings before them, and reads those that couldn't be read apart.
 pub(crate) fn add_waiting(
-    alloc: Global,
     firings: &mut FiringsBuilder,
     waiting: &mut Waiting,
 ) -> Result<(), TraceFault>
@@ -54,7 +102,7 @@ pub(crate) fn add_waiting(
         return Err(TraceFault::Memory);
     };
     keep_from(bytes, passed);
-    read_rows(alloc, firings, bytes)
+    read_rows(firings, bytes)
 }
 
 /// Puts the bytes that wait before those that are left.
@@ -93,7 +141,7 @@ pub(crate) fn keep_waiting(
 /// firings before them.
 #[cycle(reading)]
 pub(crate) fn read_pieces<R: Threads>(
-    context: &Context<R>,
+    rt: &R,
     pieces: &mut [Piece],
     bytes: &[u8],
     firings: &mut FiringsBuilder,
@@ -110,16 +158,16 @@ pub(crate) fn read_pieces<R: Threads>(
 {
     let share = bytes.len() / pieces.len().max(1);
     let Some((piece, others)) = pieces.split_first_mut() else {
-        return add_waiting(context.alloc, firings, waiting);
+        return add_waiting(firings, waiting);
     };
     let cut = cut_near(bytes, share.min(bytes.len().saturating_sub(1)));
-    read_both(context, piece, others, cut, firings, waiting)
+    read_both(rt, piece, others, cut, firings, waiting)
 }
 
 // Reads the first piece in a new thread, while others read those after it.
 #[cycle(reading)]
 fn read_both<R: Threads>(
-    context: &Context<R>,
+    rt: &R,
     piece: &mut Piece,
     others: &mut [Piece],
     cut: Cut<'_>,
@@ -140,7 +188,7 @@ fn read_both<R: Threads>(
 {
     let Cut { front, last } = cut;
     let ((), added) = join_mut(
-        context.rt,
+        rt,
         &mut || -> ()
             requires { BeginsAtEnd front.now }
             ensures piece { IsPiece front.entry.now piece.exit.now.firings piece.exit.now.passed }
@@ -154,7 +202,7 @@ fn read_both<R: Threads>(
                 firings.exit.now waiting.exit.now.bytes.items) }
             ensures fault { IfErr result (λ e. IsFaultOf e
                 (λ tail. rows_in firings.entry.now (waiting.entry.now.bytes.items ++ tail))) }
-        { read_pieces(context, others, last, firings, waiting) },
+        { read_pieces(rt, others, last, firings, waiting) },
     );
     added
 }

@@ -10,14 +10,9 @@ use crate::plain::front::rest_after;
 use crate::plain::read_plain;
 use crate::reading::read_by_csv;
 use crate::row_ends::end_of_rows;
-use std::alloc::Global;
 
 /// Reads the rows that are whole: plain ones where they lie, from the first other one on by csv.
-pub(crate) fn read_rows(
-    alloc: Global,
-    firings: &mut FiringsBuilder,
-    left: &mut Vec<u8>,
-) -> Result<(), TraceFault>
+pub(crate) fn read_rows(firings: &mut FiringsBuilder, left: &mut Vec<u8>) -> Result<(), TraceFault>
     requires feed { BeginsAtFeed left.old.items }
     requires are_read { AreRead firings.old }
     ensures read { OnOk result (GoesOn firings.old left.old.items firings.new left.new.items) }
@@ -28,7 +23,7 @@ pub(crate) fn read_rows(
     let rest = read_plain(firings, left);
     let end = end_of_rows(rest_after(rest, 1));
     if end > 0 {
-        read_by_csv(alloc, firings, &rest[..end + 1])?;
+        read_by_csv(firings, &rest[..end + 1])?;
     }
     let at = left.len() - rest.len() + end;
     keep_from(left, at);

@@ -9,8 +9,8 @@ use Rattle.firings.specs.Stored.{first_of, moved_given}
 abbrev pub owner_of : Firing → Owner
 owner_of f = record { thread = f.thread; pid = f.pid; execname = f.execname }
 
--- a row with the indices of its owner and its probe among others, and with arguments that begin so
--- much later
+-- a row whose owner and probe have these indices among others, and whose arguments begin so much
+-- later
 abbrev pub moved_row : List ℕ → List ℕ → ℕ → Row → Row
 moved_row owners probes shift r = record r {
   owner = get_or owners r.owner 0;

@@ -5,7 +5,7 @@ ghost use Rattle.std.specs.Prelude.{MatchOption, length, take};
 ghost use Rattle.firing_reader.specs.Steps.{Arguments.EndsAlike, Plain.Closes};
 ghost use Rattle.firing_reader.specs.Steps.{Plain.ReadsArguments};
 ghost use Rattle.firings.specs.{Arguments.ten};
-ghost use Rattle.firing_reader.specs.{Column.signed_of, Plain.Passes};
+ghost use Rattle.firing_reader.specs.{Column.signed_of, Plain.BeginsAtEnd, Plain.Passes};
 ghost use Rattle.firings.specs.Stored.{Extends, IsGivenIn, given_in};
 
 use super::field::{last_argument, next_argument};
@@ -28,36 +28,16 @@ fn begins_with(bytes: &[u8], front: &[u8]) -> bool
     bytes.len() >= front.len() && is_same(&bytes[..front.len()], front)
 }
 
-// What follows `count` arguments that are all 0, from the end of the row on.
+// What follows these bytes, if a row ends after them.
 #[inline(always)]
-fn after_zeros(bytes: &[u8], count: usize) -> Option<&[u8]>
-    requires most { count ≤ 10 }
-    requires least { 1 ≤ count }
-    ensures { IfSome result (λ rest. EndsAlike bytes.now count rest.now) }
+fn after_last<'a>(bytes: &'a [u8], last: &[u8]) -> Option<&'a [u8]>
+    ensures { IfSome result
+        (λ rest. (bytes.now ≡ last.now ++ rest.now) × BeginsAtEnd rest.now) }
 {
-    let zeros = &ZEROS[20 - 2 * count..];
-    if !bytes.starts_with(b"0") || !begins_with(bytes, zeros) {
+    if !begins_with(bytes, last) {
         return None;
     }
-    let rest = rest_after(bytes, zeros.len());
-    if !begins_at_end(rest) {
-        return None;
-    }
-    Some(rest)
-}
-
-// What follows `count` arguments that are all empty.
-#[inline(always)]
-fn after_empty(bytes: &[u8], count: usize) -> Option<&[u8]>
-    requires most { count ≤ 10 }
-    requires least { 1 ≤ count }
-    ensures { IfSome result (λ rest. EndsAlike bytes.now count rest.now) }
-{
-    let empty = &EMPTY[10 - count..];
-    if !bytes.starts_with(b",") || !begins_with(bytes, empty) {
-        return None;
-    }
-    let rest = rest_after(bytes, empty.len());
+    let rest = rest_after(bytes, last.len());
     if !begins_at_end(rest) {
         return None;
     }
@@ -71,9 +51,10 @@ fn after_alike(bytes: &[u8], count: usize) -> Option<&[u8]>
     requires least { 1 ≤ count }
     ensures { IfSome result (λ rest. EndsAlike bytes.now count rest.now) }
 {
-    match after_zeros(bytes, count) {
-        Some(rest) => Some(rest),
-        None => after_empty(bytes, count),
+    match bytes {
+        [b'0', ..] => after_last(bytes, &ZEROS[20 - 2 * count..]),
+        [b',', ..] => after_last(bytes, &EMPTY[10 - count..]),
+        _ => None,
     }
 }
 

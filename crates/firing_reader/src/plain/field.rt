@@ -154,18 +154,9 @@ pub(crate) fn next_argument(bytes: &[u8]) -> Option<(i64, &[u8])>
     ensures { IfSome result (λ p. (field : List ℕ)
         × Passes bytes.now (field ∷ []) p.1.now × (signed_of field ≡ Some p.0)) }
 {
-    match one_digit(bytes) {
-        Some((digit, rest)) => Some((i64::from(digit), rest)),
-        None => longer_argument(bytes),
+    if let Some((digit, rest)) = one_digit(bytes) {
+        return Some((i64::from(digit), rest));
     }
-}
-
-// An argument of any length that a comma ends.
-#[inline(always)]
-fn longer_argument(bytes: &[u8]) -> Option<(i64, &[u8])>
-    ensures { IfSome result (λ p. (field : List ℕ)
-        × Passes bytes.now (field ∷ []) p.1.now × (signed_of field ≡ Some p.0)) }
-{
     let (value, rest) = argument(bytes)?;
     let after = after_comma(rest)?;
     Some((value, after))

@@ -7,13 +7,14 @@ use Rattle.firing_reader.proofs.blocks.read_last_rows.Goals as goal
 pub returns-in_err-add_waiting : goal.returns-in_err-add_waiting
 returns-in_err-add_waiting c =
     let p = err_from_is_err_and c.from_residual.result c.from_residual.ensures.1 in
-    rw (p.1, p.2) (fault_last c.in_err-add_waiting.field-0.0 c.args.firings.now c.args.waiting.now.bytes.items c.args.left.now.items c.in_err-add_waiting.ensures.fault)
+    let old = c.args.progress.now in
+    rw (p.1, p.2) (fault_last c.in_err-add_waiting.field-0.0 old.firings old.waiting.bytes.items old.left.items c.in_err-add_waiting.ensures.fault)
 
 pub read_rest-requires-clause-few : goal.read_rest-requires-clause-few
-read_rest-requires-clause-few c = let (rows, read) = adds_read _ _ _ _ c.in_ok-add_waiting.ensures.added c.requires.are_read in rows_few rows _ read
+read_rest-requires-clause-few c = let (rows, read) = adds_read _ _ _ _ c.in_ok-add_waiting.ensures.added c.requires.1.1 in rows_few rows _ read
 
 pub returns : goal.returns
 returns c =
-    let left = c.args.left.now.items in
+    let left = c.args.progress.now.left.items in
     let goes = adds_goes _ _ _ _ left c.in_ok-add_waiting.ensures.added in
     rw (goes_all _ _ _ _ goes, ← c.in_ok-give_back.ensures.left) (rw c.deref.ensures.value at c.read_rest.ensures)

@@ -1,4 +1,4 @@
-use Rattle.std.proofs.Common.{◌≡◌, ◌-◌, [], length, refl, rules, arith, ap}
+use Rattle.std.proofs.Common.{◌-◌, length, refl, arith, ap}
 use Rattle.firing_reader.proofs.SharedRows.{piece_alone}
 use Rattle.firing_reader.proofs.pieces.read_piece.Goals as goal
 
@@ -6,8 +6,7 @@ pub returns-clause-piece : goal.returns-clause-piece
 returns-clause-piece c =
     let bytes = c.args.bytes.now in
     let rest = c.read_plain-rest.result.now in
-    let none : c.empty.new.firings ≡ [] = search rules in
-    piece_alone c.empty.new.firings bytes c.read_plain-rest.new.firings rest (length bytes - length rest) none c.read_plain-rest.ensures.left refl c.read_plain-rest.ensures.rows
+    piece_alone c.clear.new.self bytes c.read_plain-rest.new.firings rest (length bytes - length rest) c.clear.ensures c.read_plain-rest.ensures.left refl c.read_plain-rest.ensures.rows
 
 pub returns-clause-end : goal.returns-clause-end
 returns-clause-end c =

@@ -1,10 +1,10 @@
-use Rattle.std.proofs.Common.{map, ◌∙◌, refl}
-use Rattle.firings.specs.Stored.{firing_in}
+use Rattle.std.proofs.Common.{All, List, ap, map, ◌∙◌, refl}
+use Rattle.firings.specs.declared.stored_row.Row.{Row}
+use Rattle.firings.specs.Stored.{IsRowIn, firing_in}
 use Rattle.firings.specs.Units.{owner_in, probe_in}
-use Rattle.firing_reader.proofs.RowParts.{pushed_in}
+use Rattle.firing_reader.proofs.RowParts.{either_row, pushed_in}
 use Rattle.firings.proofs.Stored.{rows_more, seen_all, stored}
 use Rattle.firing_reader.proofs.builder.FiringsBuilder.read_row.Goals as goal
-use Rattle.firing_reader.proofs.builder.FiringsBuilder.read_row.Goals.{then-push_row, else-push_row}
 
 pub invariant_of-self : goal.invariant_of-self
 invariant_of-self c =
@@ -22,26 +22,35 @@ returns-in_err-row c =
 pub invariant_of-self-2 : goal.invariant_of-self-2
 invariant_of-self-2 c =
     let i = c.self.inside in
-    let q = (map owner_in c.row.new.owners) in
-    let u = (map probe_in c.row.new.probes) in
+    let o = map owner_in i.owners in
+    let q = map owner_in c.row.new.owners in
+    let p = map probe_in i.probes in
+    let u = map probe_in c.row.new.probes in
+    let a = i.args.items in
     let b = c.row.new.args.items in
     let e = c.row.ensures in
-    elim c.if-push_row.branch [
-      | then-push_row w ↦ rw (c.push_row.ensures.pushed w.if-push_row.true) (pushed_in (map owner_in i.owners) q (map probe_in i.probes) u i.args.items b i.rows.items c.in_ok-row.row e.owners e.probes e.args c.self.invariant c.in_ok-row.ensures.inside)
-      | else-push_row w ↦ rw (c.push_row.ensures.refused w.if-push_row.false) (rows_more (map owner_in i.owners) q (map probe_in i.probes) u i.args.items b i.rows.items e.owners e.probes e.args c.self.invariant)
-    ]
+    let r = c.in_ok-row.row in
+    either_row c.push_row.result (λ (l : List Row). All (IsRowIn q u b) l) i.rows.items c.push_row.new.rows.items r c.push_row.ensures
+    (rows_more o q p u a b i.rows.items e.owners e.probes e.args c.self.invariant) (pushed_in o q p u a b i.rows.items r e.owners e.probes e.args c.self.invariant c.in_ok-row.ensures.inside)
+
+pub returns-in_err-push_row : goal.returns-in_err-push_row
+returns-in_err-push_row c =
+    let i = c.self.inside in
+    let q = map owner_in c.row.new.owners in
+    let u = map probe_in c.row.new.probes in
+    let b = c.row.new.args.items in
+    let e = c.row.ensures in
+    let same = seen_all (map owner_in i.owners) q (map probe_in i.probes) u i.args.items b i.rows.items e.owners e.probes e.args c.self.invariant ∙ c.self.view_is in
+    rw c.from_residual-in_err-push_row.ensures (ap (map (firing_in q u b)) c.in_err-push_row.ensures ∙ same)
 
 pub returns : goal.returns
 returns c =
     let i = c.self.inside in
-    let q = (map owner_in c.row.new.owners) in
-    let u = (map probe_in c.row.new.probes) in
+    let q = map owner_in c.row.new.owners in
+    let u = map probe_in c.row.new.probes in
     let b = c.row.new.args.items in
     let e = c.row.ensures in
     let same = seen_all (map owner_in i.owners) q (map probe_in i.probes) u i.args.items b i.rows.items e.owners e.probes e.args c.self.invariant ∙ c.self.view_is in
     let r = c.in_ok-row.row in
     let h = c.in_ok-row.ensures in
-    elim c.if-push_row.branch [
-      | then-push_row w ↦ rw w.result-is (firing_in q u b r, rw (c.push_row.ensures.pushed w.if-push_row.true) (stored q u b i.rows.items r (firing_in q u b r) c.args.self.now same refl), h.row, rw c.last_number-last.ensures at h.rises)
-      | else-push_row w ↦ rw w.result-is (rw (c.push_row.ensures.refused w.if-push_row.false) same)
-    ]
+    (firing_in q u b r, rw c.in_ok-push_row.ensures (stored q u b i.rows.items r (firing_in q u b r) c.args.self.now same refl), h.row, rw c.last_number-last.ensures at h.rises)

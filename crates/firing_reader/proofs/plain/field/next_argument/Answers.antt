@@ -10,3 +10,8 @@ returns-in-Some c =
     let d = c.in-Some.digit in
     let field = (48 + d) ∷ [] in
     (field, passes_one c.args.bytes.now field c.in-Some.rest.now (record { split = is; plain = one_joins d lt }), rw (to_z-of_z w64 c.from.result (search rules), c.from.ensures) (one_signed d lt))
+
+pub returns : goal.returns
+returns c =
+    let (field, fronts, read) = c.in_ok-value.ensures in
+    (field, passes_one c.args.bytes.now field c.in_ok-after.after.now (rw c.in_ok-after.ensures at fronts), search (rules, read))
