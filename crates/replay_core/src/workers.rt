@@ -8,13 +8,13 @@ pub(crate) mod span;
 pub(crate) mod until;
 pub(crate) mod worker;
 
-ghost use Rattle.std.specs.Prelude.{◌≡◌, ◌+◌, ◌<◌, ◌≤◌, IfOk, vec_len};
+ghost use Rattle.std.specs.Prelude.{◌≡◌, ◌<◌, ◌≤◌, IfOk, vec_len};
 ghost use Rattle.replay_core.specs.Vocabulary.{AreOf, IsTrace, ScriptMeant, end_of, flat_map};
 ghost use Rattle.replay_core.specs.Vocabulary.{grouping, run_threads};
 ghost use Rattle.replay_core.specs.{Exit.firings_over, Groups.IsAllBelow};
 ghost use Rattle.replay_core.specs.Steps.AtBoard.{IsRun};
-ghost use Rattle.replay_core.specs.{Seen.whole_seen, Selecting.AreSelected};
-ghost use Rattle.replay_core.specs.Steps.Working.{IsReady};
+ghost use Rattle.replay_core.specs.{Seen.whole_seen};
+ghost use Rattle.replay_core.specs.Steps.Working.{IsInput, IsReady};
 ghost use Rattle.replay_core.specs.Pieces.{IsWholeOf, RunsEachOnce};
 
 use crate::collect_fault::CollectFault;
@@ -26,7 +26,7 @@ use crate::workers::round::{Round, in_round};
 use crate::workers::span::Span;
 use crate::workers::worker::WorkerInput;
 use firings::Trace;
-use shard_queue::{Groups, MAX_GROUPS, MAX_WORKERS};
+use shard_queue::{Groups, MAX_WORKERS};
 use std::alloc::{AllocError, Global};
 use std::sync::Wait;
 use std::thread::Threads;
@@ -61,7 +61,6 @@ pub fn run_all<R: Threads + Wait + Sync, L: Lanes + Sync, G: Gate + Sync>(
 ) -> Result<(Whole, Vec<Vec<u32>>), AllocError>
     requires script { (m : ScriptMeant) × L.runs lanes.now m }
     requires groups { AreOf groups.now (run_threads trace.now) }
-    requires few { (grouping groups.now).count ≤ MAX_GROUPS + 1 }
     requires workers { (0 < workers) × (workers ≤ MAX_WORKERS) }
     ensures whole { IfOk result (λ r. (m : ScriptMeant) → L.runs lanes.now m
         → IsWholeOf m (firings_over m trace.now) (grouping groups.now) (whole_seen r.0)) }
@@ -95,7 +94,6 @@ fn in_rounds<R: Threads + Wait + Sync, L: Lanes + Sync, G: Gate + Sync>(
     workers: u32,
 ) -> Result<Round, AllocError>
     requires ready { IsReady (L.runs lanes.now) job.now.groups.now job.now.trace.now }
-    requires few { (grouping job.now.groups.now).count ≤ MAX_GROUPS + 1 }
     requires workers { (0 < workers) × (workers ≤ MAX_WORKERS) }
     ensures workers { IfOk result (λ r. vec_len r.lists ≡ workers) }
     ensures trace { IfOk result (λ _. IsTrace job.now.trace.now) }
@@ -119,10 +117,7 @@ fn in_needed_rounds<R: Threads + Wait + Sync, L: Lanes + Sync, G: Gate + Sync>(
     input: &WorkerInput<L, G>,
     workers: u32,
 ) -> Result<Round, AllocError>
-    requires ready { IsReady (L.runs input.now.lanes.now) input.now.groups.now input.now.trace.now }
-    requires selected { AreSelected
-        (L.runs input.now.lanes.now) input.now.trace.now input.now.selections.now }
-    requires few { (grouping input.now.groups.now).count ≤ MAX_GROUPS + 1 }
+    requires ready { IsInput (L.runs input.now.lanes.now) input.now }
     requires workers { (0 < workers) × (workers ≤ MAX_WORKERS) }
     ensures workers { IfOk result (λ r. vec_len r.lists ≡ workers) }
     ensures trace { IfOk result (λ _. IsTrace input.now.trace.now) }
@@ -145,10 +140,7 @@ fn until_exit<R: Threads + Wait + Sync, L: Lanes + Sync, G: Gate + Sync>(
     workers: u32,
     end: u64,
 ) -> Result<Round, AllocError>
-    requires ready { IsReady (L.runs input.now.lanes.now) input.now.groups.now input.now.trace.now }
-    requires selected { AreSelected
-        (L.runs input.now.lanes.now) input.now.trace.now input.now.selections.now }
-    requires few { (grouping input.now.groups.now).count ≤ MAX_GROUPS + 1 }
+    requires ready { IsInput (L.runs input.now.lanes.now) input.now }
     requires workers { (0 < workers) × (workers ≤ MAX_WORKERS) }
     requires trace { IsTrace input.now.trace.now }
     requires end { end ≡ (end_of input.now.trace.now).number }

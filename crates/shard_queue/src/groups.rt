@@ -1,10 +1,10 @@
 //! Groups of threads.
 
-ghost use Rattle.std.specs.Prelude.{◌≡◌, ◌<◌, ◌+◌, ◌∷◌, ◌++◌, [], ℕ, All, IfSome, OnOk};
+ghost use Rattle.std.specs.Prelude.{◌≡◌, ◌<◌, ◌≤◌, ◌+◌, ◌∷◌, ◌++◌, [], ℕ, All, IfSome, OnOk};
 ghost use Rattle.std.specs.Prelude.{if◌then◌else◌, vec_len};
 ghost use Rattle.shard_queue.specs.{Groupings.is_group};
 ghost use Rattle.shard_queue.specs.Vocabulary.{IsStrictlySortedBy, IsStrictlySortedBy-prop};
-ghost use Rattle.shard_queue.specs.Vocabulary.{int_cmp};
+ghost use Rattle.shard_queue.specs.Vocabulary.{MAX_GROUPS, int_cmp};
 
 use crate::threads::index_of;
 use std::alloc::AllocError;
@@ -24,18 +24,20 @@ pub struct Groups {
     ghost numbered: { vec_len numbers ≡ vec_len threads },
     ghost small: { All (λ g. g < own) numbers.items },
     ghost sized: { vec_len indices ≡ own + 1 },
+    ghost few: { own ≤ MAX_GROUPS },
 }
 
 impl Groups {
     ghost use Rattle.shard_queue.specs.Groups.{grouping, indices};
 
-    /// How many groups there are, that of thread 0 among them.
+    /// How many groups there are, that of thread 0 among them: no more than a deal or lists make.
     ///
     /// ```text
     /// Groups::deal(alloc, &trace, 2)?.len() // 3
     /// ```
     pub fn len(&self) -> usize
-        ensures { result ≡ (grouping self.now).count }
+        ensures count { result ≡ (grouping self.now).count }
+        ensures few { result ≤ MAX_GROUPS + 1 }
     {
         self.indices.len()
     }

@@ -35,7 +35,7 @@ pub fn each_index_in_one_group()
         (flat_map (λ g. indices_of grouping g threads) (below grouping.count)) }
 {}
 
-/// At a group's indices are the firings of its threads, in their order.
+/// The firings at a group's indices are those of its threads, in their order.
 pub fn firings_at_the_indices()
     ensures { (grouping : Grouping) (g : ℕ) (firings : List Firing)
         → map (slice_get firings) (indices_of grouping g (map thread_of firings))

@@ -124,8 +124,7 @@ where
                 let child = scope.spawn_with(
                     Works::new(board, lanes, trace, groups, span),
                     move || -> Worked
-                        requires seat { IsAt board.now seat × IsNew seat }
-                        requires given { IsGiven (L.runs lanes.now)
+                        requires { IsAt board.now seat × IsNew seat × IsGiven (L.runs lanes.now)
                             board.now groups.now trace.now (S.lent selections.now) }
                         ensures { HasWorked span (L.runs lanes.entry.now)
                             groups.entry.now trace.entry.now board.entry.now result }
@@ -143,10 +142,7 @@ where
                 )?;
                 handles.push_reserved(child);
             }
-            match thread::join_promised(rt, handles) {
-                Ok(results) => Ok(results),
-                Err(_) => Err(AllocError),
-            }
+            Ok(thread::join_promised(rt, handles)?)
         },
     )
 }

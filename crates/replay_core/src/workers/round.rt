@@ -1,9 +1,8 @@
 //! One round: every group by one of the workers.
 
-ghost use Rattle.std.specs.Prelude.{◌≡◌, ◌+◌, ◌<◌, ◌≤◌, IfOk, vec_len};
+ghost use Rattle.std.specs.Prelude.{◌≡◌, ◌<◌, ◌≤◌, IfOk, vec_len};
 ghost use Rattle.replay_core.specs.Vocabulary.{grouping};
-ghost use Rattle.replay_core.specs.{Selecting.AreSelected};
-ghost use Rattle.replay_core.specs.Steps.Working.{IsReady};
+ghost use Rattle.replay_core.specs.Steps.Working.{IsInput};
 ghost use Rattle.replay_core.specs.AtBoard.{Gives, IsRound};
 
 use crate::lanes::Lanes;
@@ -12,7 +11,7 @@ use crate::workers::at_board::{in_threads, pieces_and_seats};
 use crate::workers::gate::Gate;
 use crate::workers::span::Span;
 use crate::workers::worker::WorkerInput;
-use shard_queue::{ClaimBoard, Closed, MAX_GROUPS, MAX_WORKERS};
+use shard_queue::{ClaimBoard, Closed, MAX_WORKERS};
 use std::alloc::AllocError;
 use std::sync::Wait;
 use std::thread::Threads;
@@ -33,10 +32,7 @@ pub(crate) fn in_round<R: Threads + Wait + Sync, L: Lanes + Sync, G: Gate + Sync
     workers: u32,
     span: Span,
 ) -> Result<Round, AllocError>
-    requires ready { IsReady (L.runs input.now.lanes.now) input.now.groups.now input.now.trace.now }
-    requires selected { AreSelected
-        (L.runs input.now.lanes.now) input.now.trace.now input.now.selections.now }
-    requires few { (grouping input.now.groups.now).count ≤ MAX_GROUPS + 1 }
+    requires ready { IsInput (L.runs input.now.lanes.now) input.now }
     requires workers { (0 < workers) × (workers ≤ MAX_WORKERS) }
     ensures lists { IfOk result (λ r. vec_len r.lists ≡ workers) }
     ensures round { IfOk result (IsRound

@@ -5,11 +5,11 @@ ghost use Rattle.std.specs.Prelude.{OnOk, IsFalse};
 ghost use Rattle.replay_core.specs.Vocabulary.{AreOf, MAX_BYTES, ScriptMeant, grouping, no_number};
 ghost use Rattle.replay_core.specs.Vocabulary.{run_threads, with_ends};
 ghost use Rattle.replay_core.specs.{Running.IsLaneOf, Seen.IsRoomy};
-ghost use Rattle.replay_core.specs.Steps.{Adding.IsAdded, Working.firings_at};
+ghost use Rattle.replay_core.specs.Steps.{Adding.IsAdded, Working.IsInput, Working.firings_at};
 ghost use Rattle.replay_core.specs.Beginnings.{AreBegun, IsBegunOf, least_exit};
 ghost use Rattle.replay_core.specs.Steps.Beginnings.{RunsBeginning};
 ghost use Rattle.replay_core.specs.Beginnings.{lesser_of};
-ghost use Rattle.replay_core.specs.Selecting.{AreFor, AreSelected};
+ghost use Rattle.replay_core.specs.Selecting.{AreFor};
 
 use crate::lanes::Lanes;
 use crate::lanes::engine::Engine;
@@ -81,10 +81,7 @@ where
     requires seat { S.is_at source.now seat × (S.list seat ≡ []) }
     requires new { S.lowered seat ≡ no_number }
     requires end { S.end source.now ≡ (grouping input.now.groups.now).count }
-    requires script { (m : ScriptMeant) × L.runs input.now.lanes.now m }
-    requires selected { AreSelected
-        (L.runs input.now.lanes.now) input.now.trace.now input.now.selections.now }
-    requires groups { AreOf input.now.groups.now (run_threads input.now.trace.now) }
+    requires ready { IsInput (L.runs input.now.lanes.now) input.now }
     ensures seat { IfOk result (λ r. S.is_at source.entry.now r.1 × (S.at_end r.1 ≡ true)) }
     ensures groups { IfOk result (λ r. map (λ p. p.0) r.0.items ≡ S.list r.1) }
     ensures pieces { IfOk result (λ r. AreBegun (L.runs input.entry.now.lanes.now) (S.seen r.1)
@@ -117,10 +114,7 @@ fn push_beginning<S: Exits, L: Lanes, G>(
 ) -> Result<(), AllocError>
     requires seat { S.is_at source.now seat.old }
     requires group { group < (grouping input.now.groups.now).count }
-    requires script { (m : ScriptMeant) × L.runs input.now.lanes.now m }
-    requires selected { AreSelected
-        (L.runs input.now.lanes.now) input.now.trace.now input.now.selections.now }
-    requires groups { AreOf input.now.groups.now (run_threads input.now.trace.now) }
+    requires ready { IsInput (L.runs input.now.lanes.now) input.now }
     ensures seat { OnOk result (S.is_at source.now seat.new × (S.list seat.new ≡ S.list seat.old)) }
     ensures seen { OnOk result (S.seen seat.new ≤ S.seen seat.old) }
     ensures added { OnOk result (IsAdded (λ p. ((m : ScriptMeant) → L.runs input.now.lanes.now m
@@ -143,10 +137,7 @@ fn piece_until<S: Exits, L: Lanes, G>(
 ) -> Result<Piece, AllocError>
     requires seat { S.is_at source.now seat.old }
     requires group { group < (grouping input.now.groups.now).count }
-    requires script { (m : ScriptMeant) × L.runs input.now.lanes.now m }
-    requires selected { AreSelected
-        (L.runs input.now.lanes.now) input.now.trace.now input.now.selections.now }
-    requires groups { AreOf input.now.groups.now (run_threads input.now.trace.now) }
+    requires ready { IsInput (L.runs input.now.lanes.now) input.now }
     ensures seat { OnOk result (S.is_at source.now seat.new × (S.list seat.new ≡ S.list seat.old)) }
     ensures seen { OnOk result (S.seen seat.new ≤ S.seen seat.old) }
     ensures piece { IfOk result (λ p. (m : ScriptMeant) → L.runs input.now.lanes.now m

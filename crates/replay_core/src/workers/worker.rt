@@ -6,9 +6,9 @@ ghost use Rattle.replay_core.specs.Vocabulary.{AreOf, Firing, HasRanges, MAX_BYT
 ghost use Rattle.replay_core.specs.Vocabulary.{MAX_TOGETHER, grouping, run_threads, with_ends};
 ghost use Rattle.replay_core.specs.{Running.IsLaneOf, Seen.IsRoomy, Sizes.most_firings};
 ghost use Rattle.replay_core.specs.{Lanes.Fires, Meaning.exit_of, Meaning.history};
-ghost use Rattle.replay_core.specs.Selecting.{AreFor, AreSelected, selected_for};
+ghost use Rattle.replay_core.specs.Selecting.{AreFor, selected_for};
 ghost use Rattle.replay_core.specs.Working.{AreOfGroups, IsOfGroup};
-ghost use Rattle.replay_core.specs.Steps.{Adding.IsAdded, Working.IsReady, Working.firings_at};
+ghost use Rattle.replay_core.specs.Steps.{Adding.IsAdded, Working.IsInput, Working.firings_at};
 ghost use Rattle.replay_core.specs.Working.{firings_in, is_in};
 
 use crate::lanes::Lanes;
@@ -95,9 +95,7 @@ where
     S::Seat: Drop,
     requires seat { S.is_at source.now seat × (S.list seat ≡ []) }
     requires end { S.end source.now ≡ (grouping input.now.groups.now).count }
-    requires ready { IsReady (L.runs input.now.lanes.now) input.now.groups.now input.now.trace.now }
-    requires selected { AreSelected
-        (L.runs input.now.lanes.now) input.now.trace.now input.now.selections.now }
+    requires ready { IsInput (L.runs input.now.lanes.now) input.now }
     ensures seat { IfOk result (λ r. S.is_at source.entry.now r.1 × (S.at_end r.1 ≡ true)) }
     ensures groups { IfOk result (λ r. map (λ p. p.0) r.0.items ≡ S.list r.1) }
     ensures pieces { IfOk result (λ r. AreOfGroups (L.runs input.entry.now.lanes.now)
@@ -128,10 +126,7 @@ impl<'a, L: Lanes, G> WorkerInput<'a, L, G> {
         span: Span,
     ) -> Result<(), AllocError>
         requires group { group < (grouping self.now.groups.now).count }
-        requires ready { IsReady
-            (L.runs self.now.lanes.now) self.now.groups.now self.now.trace.now }
-        requires selected { AreSelected
-            (L.runs self.now.lanes.now) self.now.trace.now self.now.selections.now }
+        requires ready { IsInput (L.runs self.now.lanes.now) self.now }
         ensures { OnOk result (IsAdded (λ p. ((m : ScriptMeant) → L.runs self.now.lanes.now m
             → IsOfGroup m (grouping self.now.groups.now) (firings_in span self.now.trace.now) p)
             × IsRoomy p.1) pieces.old.items group pieces.new.items) }
@@ -144,10 +139,7 @@ impl<'a, L: Lanes, G> WorkerInput<'a, L, G> {
     // What the firings of a group that count make.
     fn piece_of(&self, group: u32, span: Span) -> Result<Piece, AllocError>
         requires group { group < (grouping self.now.groups.now).count }
-        requires ready { IsReady
-            (L.runs self.now.lanes.now) self.now.groups.now self.now.trace.now }
-        requires selected { AreSelected
-            (L.runs self.now.lanes.now) self.now.trace.now self.now.selections.now }
+        requires ready { IsInput (L.runs self.now.lanes.now) self.now }
         ensures piece { IfOk result (λ p. (m : ScriptMeant) → L.runs self.now.lanes.now m
             → IsOfGroup m (grouping self.now.groups.now)
             (firings_in span self.now.trace.now) (group, p)) }

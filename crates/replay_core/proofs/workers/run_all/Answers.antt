@@ -12,7 +12,7 @@ use Rattle.replay_core.proofs.workers.run_all.Goals as goal
 
 pub collect-requires-clause-n : goal.collect-requires-clause-n
 collect-requires-clause-n g c =
-    let len = c.len.ensures in
+    let len = c.len.ensures.count in
     let some = some_group c.args.groups.now c.args.trace.now c.requires.groups in
     omega arith
 
@@ -28,7 +28,7 @@ collect-requires-clause-tables g c =
 pub unreachable-requires : goal.unreachable-requires
 unreachable-requires g c =
     let pieces = c.in_ok-round.round.pieces.items in
-    let none = no_bad c.len.result pieces (subst (λ n. IsAllBelow n (map (λ p. p.0) pieces)) (sym c.len.ensures) c.in_ok-round.ensures.run.once) in
+    let none = no_bad c.len.result pieces (subst (λ n. IsAllBelow n (map (λ p. p.0) pieces)) (sym c.len.ensures.count) c.in_ok-round.ensures.run.once) in
     let fault = subst (λ e. IsCollectFault c.len.result pieces e) c.in-Err-Twice.field-0-is c.in-Err-Twice.ensures.err in
     let both : None ≡ Some (Twice c.in-Err-Twice.field-0-0) = sym none ∙ fault in
     absurd cc
@@ -36,7 +36,7 @@ unreachable-requires g c =
 pub unreachable-requires-in-Err-Stranger : goal.unreachable-requires-in-Err-Stranger
 unreachable-requires-in-Err-Stranger g c =
     let pieces = c.in_ok-round.round.pieces.items in
-    let none = no_bad c.len.result pieces (subst (λ n. IsAllBelow n (map (λ p. p.0) pieces)) (sym c.len.ensures) c.in_ok-round.ensures.run.once) in
+    let none = no_bad c.len.result pieces (subst (λ n. IsAllBelow n (map (λ p. p.0) pieces)) (sym c.len.ensures.count) c.in_ok-round.ensures.run.once) in
     let fault = subst (λ e. IsCollectFault c.len.result pieces e) c.in-Err-Stranger.field-0-is c.in-Err-Stranger.ensures.err in
     let both : None ≡ Some (Stranger c.in-Err-Stranger.field-0-0) = sym none ∙ fault in
     absurd cc
@@ -44,7 +44,7 @@ unreachable-requires-in-Err-Stranger g c =
 pub unreachable-requires-in-Err-Missing : goal.unreachable-requires-in-Err-Missing
 unreachable-requires-in-Err-Missing g c =
     let pieces = c.in_ok-round.round.pieces.items in
-    let all = subst (λ n. IsAllBelow n (map (λ p. p.0) pieces)) (sym c.len.ensures) c.in_ok-round.ensures.run.once in
+    let all = subst (λ n. IsAllBelow n (map (λ p. p.0) pieces)) (sym c.len.ensures.count) c.in_ok-round.ensures.run.once in
     let fault = subst (λ e. IsCollectFault c.len.result pieces e) c.in-Err-Missing.field-0-is c.in-Err-Missing.ensures.err in
     no_missing c.len.result c.in-Err-Missing.field-0-0 pieces all fault.1
 
@@ -55,7 +55,7 @@ returns-in-Ok-clause-whole g c = λ m runs.
     let round = c.in_ok-round.ensures.run in
     let trace = c.in_ok-round.ensures.trace in
     whole_of m (grouping a.groups.now) (firings_over m a.trace.now) pieces c.in-Ok.whole (over_grouped m a.groups.now a.trace.now trace c.requires.groups)
-    (over_rise m a.groups.now a.trace.now trace) (round.each m runs) (subst (λ n. IsCollected n pieces c.in-Ok.whole) c.len.ensures c.in-Ok.ensures.ok)
+    (over_rise m a.groups.now a.trace.now trace) (round.each m runs) (subst (λ n. IsCollected n pieces c.in-Ok.whole) c.len.ensures.count c.in-Ok.ensures.ok)
 
 pub returns-in-Ok-clause-once : goal.returns-in-Ok-clause-once
 returns-in-Ok-clause-once g c = λ m runs.
@@ -66,4 +66,4 @@ returns-in-Ok-clause-once g c = λ m runs.
     let grouped = over_grouped m a.groups.now a.trace.now trace c.requires.groups in
     each_once m (grouping a.groups.now) (firings_over m a.trace.now) c.in-Ok.whole grouped
     (whole_of m (grouping a.groups.now) (firings_over m a.trace.now) pieces c.in-Ok.whole grouped
-    (over_rise m a.groups.now a.trace.now trace) (round.each m runs) (subst (λ n. IsCollected n pieces c.in-Ok.whole) c.len.ensures c.in-Ok.ensures.ok))
+    (over_rise m a.groups.now a.trace.now trace) (round.each m runs) (subst (λ n. IsCollected n pieces c.in-Ok.whole) c.len.ensures.count c.in-Ok.ensures.ok))

@@ -16,14 +16,14 @@ pub run_at-requires-clause-indices : goal.run_at-requires-clause-indices
 run_at-requires-clause-indices g c κs within =
     let s = c.args.self.now in
     let t = s.trace.now in
-    let are = c.indices-indices.ensures ∙ c.requires.ready.placed.indices c.args.group ∙ ap (indices_of (grouping s.groups.now) c.args.group) (sym (threads_are t)) in
+    let are = c.indices-indices.ensures ∙ c.requires.ready.0.placed.indices c.args.group ∙ ap (indices_of (grouping s.groups.now) c.args.group) (sym (threads_are t)) in
     subst (λ (ps : List ℕ). All (λ p. p < length (with_ends t t)) ps) (sym are) (all_below (λ t. is_group c.args.group ((grouping s.groups.now).group t)) (with_ends t t))
 
 pub run_at-requires-clause-few : goal.run_at-requires-clause-few
 run_at-requires-clause-few g c κs within =
     let s = c.args.self.now in
     let t = s.trace.now in
-    let are = ap length (c.indices-indices.ensures ∙ c.requires.ready.placed.indices c.args.group ∙ ap (indices_of (grouping s.groups.now) c.args.group) (sym (threads_are t))) in
+    let are = ap length (c.indices-indices.ensures ∙ c.requires.ready.0.placed.indices c.args.group ∙ ap (indices_of (grouping s.groups.now) c.args.group) (sym (threads_are t))) in
     let few = few_indices (λ t. is_group c.args.group ((grouping s.groups.now).group t)) 0 (with_ends t t) in
     omega (arith, are, few)
 
@@ -33,8 +33,8 @@ returns-clause-piece g c = λ m runs.
     let t = s.trace.now in
     let fs = with_ends t t in
     let in_group : ℤ → Bool = λ t. is_group c.args.group ((grouping s.groups.now).group t) in
-    let ran = c.in_ok-lane-2.ensures.run m (c.in_ok-lane.ensures.script m runs) (c.requires.selected.each m runs) in
-    let are = ap (firings_at fs) (c.indices-indices.ensures ∙ c.requires.ready.placed.indices c.args.group ∙ ap (indices_of (grouping s.groups.now) c.args.group) (sym (threads_are t))) ∙ chosen in_group fs 0 fs refl in
+    let ran = c.in_ok-lane-2.ensures.run m (c.in_ok-lane.ensures.script m runs) (c.requires.ready.1.each m runs) in
+    let are = ap (firings_at fs) (c.indices-indices.ensures ∙ c.requires.ready.0.placed.indices c.args.group ∙ ap (indices_of (grouping s.groups.now) c.args.group) (sym (threads_are t))) ∙ chosen in_group fs 0 fs refl in
     let all = ap (filter (is_in c.args.span)) are ∙ filter_swap (is_in c.args.span) (λ f. in_group f.thread) fs in
     let group = of_group (grouping s.groups.now) c.args.group (filter (is_in c.args.span) fs) in
     subst (λ p. IsPieceOf m group p) (sym c.finish.ensures.piece)
@@ -42,8 +42,8 @@ returns-clause-piece g c = λ m runs.
 
 pub run_at-requires-clause-script : goal.run_at-requires-clause-script
 run_at-requires-clause-script g c κs within =
-    let (m, runs) = c.requires.ready.script in
-    (m, c.in_ok-lane.ensures.script m runs, c.requires.selected.each m runs)
+    let (m, runs) = c.requires.ready.0.script in
+    (m, c.in_ok-lane.ensures.script m runs, c.requires.ready.1.each m runs)
 
 pub run_at-requires-clause-short : goal.run_at-requires-clause-short
-run_at-requires-clause-short g c κs within = c.requires.selected.few
+run_at-requires-clause-short g c κs within = c.requires.ready.1.few
