@@ -2,10 +2,19 @@
 use Rattle.std.proofs.Common.{◌≡◌, ◌&&◌, ℕ, suc, Bool, true, false, cond, List, [], ◌∷◌, ◌++◌}
 use Rattle.std.proofs.Common.{length, take, take_while, refl, sym, ap, subst, ◌∙◌}
 use Rattle.std.proofs.lemmas.List.Sums.{take_while-cons}
+use Rattle.std.specs.{Char.is_ascii_digit, List.AllZip, List.concat}
+use Rattle.d_lexer.specs.declared.token.TokenKind.{TokenKind}
+use Rattle.d_lexer.specs.declared.token.TokenKind.TheVariants as kind
 use Rattle.d_lexer.specs.declared.place.Place.{Place}
+use Rattle.d_lexer.specs.declared.place.Place.TheVariants.{Head, Declaration, Predicate, Body}
 use Rattle.d_lexer.specs.declared.position.Position.{Position}
-use Rattle.d_lexer.specs.Places.{position_after, after_byte}
-use Rattle.d_lexer.specs.{Tokens.Fills, Faults.IsFault}
+use Rattle.d_lexer.specs.Bytes.{is_word_start, is_word_byte}
+use Rattle.d_lexer.specs.Numbers.{IsIntegerConstant}
+use Rattle.d_lexer.specs.Places.{position_after, after_byte, is_head}
+use Rattle.d_lexer.specs.Tokens.{Fills, IsLongestRun, SpellsAggregation, SpellsByte, SpellsText}
+use Rattle.d_lexer.specs.Tokens.{IsMark}
+use Rattle.d_lexer.specs.Tokens.{SpellsToken}
+use Rattle.d_lexer.specs.{Faults.IsFault}
 use Rattle.d_lexer.specs.Steps.Scan.{run_len, front_run, scan, TokensEnd, Clean, Bad}
 
 -- z is own and rest, own has n bytes, and P holds of them
@@ -57,6 +66,74 @@ run_splits test (b ∷ z) =
     (cond_is (λ (n : ℕ). Split (Fills test) n (b ∷ z)) (test b) (suc (run_len test z)) 0
     (λ e. run_more test b z e (run_splits test z))
     (λ e. record { own = []; rest = b ∷ z; is = refl; size = refl; holds = record { all = tt; stops = e } }))
+
+-- ---- text constants
+
+-- the bytes of a text constant in turn, each before what is written of those after it
+abbrev pub SpellInTurn : List ℕ → List ℕ → Type 0
+SpellInTurn own [] = own ≡ []
+SpellInTurn own (x ∷ xs) =
+    (first : List ℕ) × (others : List ℕ) × (own ≡ first ++ others) × SpellsByte x first × SpellInTurn others xs
+
+turns : (xs : List ℕ) (parts : List (List ℕ)) (own : List ℕ) → AllZip SpellsByte xs parts → own ≡ concat parts → SpellInTurn own xs
+turns [] [] own h is = is
+turns [] (part ∷ parts) own h is = absurd h
+turns (x ∷ xs) [] own h is = absurd h
+turns (x ∷ xs) (part ∷ parts) own h is = (part, concat parts, is, h.0, turns xs parts (concat parts) h.1 refl)
+
+pub in_turn : (own xs : List ℕ) → SpellsText own xs → SpellInTurn own xs
+in_turn own xs h = turns xs h.0 own h.1 h.2
+
+pub spell_text : (own xs : List ℕ) → SpellInTurn own xs → SpellsText own xs
+spell_text own [] h = ([], tt, h)
+spell_text own (x ∷ xs) h =
+    let later = spell_text h.1 xs h.4 in
+    (h.0 ∷ later.0, (h.3, later.1), h.2 ∙ ap (λ (zs : List ℕ). h.0 ++ zs) later.2)
+
+-- ---- tokens outside the head, by their kinds
+
+abbrev pub SpellsInside : Place → (own rest : List ℕ) → TokenKind → Type 0
+SpellsInside p own rest (kind.DescriptionRun w) = ⊥
+SpellsInside p own rest (kind.Word w) = (w ≡ own) × IsLongestRun is_word_start is_word_byte own rest
+SpellsInside p own rest (kind.AggregationName w) = SpellsAggregation own rest w
+SpellsInside p own rest (kind.Number n s) = IsIntegerConstant own n s × IsLongestRun is_ascii_digit is_word_byte own rest
+SpellsInside p own rest (kind.TextConstant w) = (body : List ℕ) × (own ≡ 34 ∷ (body ++ 34 ∷ [])) × SpellsText body w
+SpellsInside p own rest (kind.Mark k) = IsMark p own rest k
+
+-- both say the same outside the head
+record IsSame (A B : Type 0) : Type 0 where
+  to : A → B
+  from : B → A
+
+same : {A : Type 0} → IsSame A A
+same = record { to = λ h. h; from = λ h. h }
+
+inside_is : (p : Place) (own rest : List ℕ) (t : TokenKind) → is_head p ≡ false → IsSame (SpellsInside p own rest t) (SpellsToken p own rest t)
+inside_is Head own rest t e = absurd cc
+inside_is Declaration own rest (kind.DescriptionRun w) e = same
+inside_is Declaration own rest (kind.Word w) e = same
+inside_is Declaration own rest (kind.AggregationName w) e = same
+inside_is Declaration own rest (kind.Number n s) e = same
+inside_is Declaration own rest (kind.TextConstant w) e = same
+inside_is Declaration own rest (kind.Mark k) e = same
+inside_is Predicate own rest (kind.DescriptionRun w) e = same
+inside_is Predicate own rest (kind.Word w) e = same
+inside_is Predicate own rest (kind.AggregationName w) e = same
+inside_is Predicate own rest (kind.Number n s) e = same
+inside_is Predicate own rest (kind.TextConstant w) e = same
+inside_is Predicate own rest (kind.Mark k) e = same
+inside_is Body own rest (kind.DescriptionRun w) e = same
+inside_is Body own rest (kind.Word w) e = same
+inside_is Body own rest (kind.AggregationName w) e = same
+inside_is Body own rest (kind.Number n s) e = same
+inside_is Body own rest (kind.TextConstant w) e = same
+inside_is Body own rest (kind.Mark k) e = same
+
+pub inside_spells : (p : Place) (own rest : List ℕ) (t : TokenKind) → is_head p ≡ false → SpellsInside p own rest t → SpellsToken p own rest t
+inside_spells p own rest t e = (inside_is p own rest t e).to
+
+pub spelled_inside : (p : Place) (own rest : List ℕ) (t : TokenKind) → is_head p ≡ false → SpellsToken p own rest t → SpellsInside p own rest t
+spelled_inside p own rest t e = (inside_is p own rest t e).from
 
 -- ---- passing bytes
 

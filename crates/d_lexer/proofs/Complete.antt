@@ -30,7 +30,7 @@ use Rattle.d_lexer.specs.Steps.OptionLine.{is_option}
 use Rattle.d_lexer.specs.Tokens.{StopsAt, Fills, HasNoEnd, IsSeparator, blank, comment, first_line}
 use Rattle.d_lexer.specs.Tokens.{Past, here, past, IsLongestRun, SpellsText, SpellsAggregation}
 use Rattle.d_lexer.specs.Tokens.{IsMark}
-use Rattle.d_lexer.specs.Tokens.{SpellsInside, SpellsHead, SpellsToken, option_line}
+use Rattle.d_lexer.specs.Tokens.{SpellsToken, option_line}
 use Rattle.d_lexer.specs.Faults.{on_line, begins, StopsText, IsFrontFault, stray, open_comment}
 use Rattle.d_lexer.specs.Faults.{text, number, other_option}
 use Rattle.d_lexer.specs.Tokens.{Lexes}
@@ -40,7 +40,8 @@ use Rattle.d_lexer.specs.Steps.Scan.{number_front, head_kind, aggregation_front,
 use Rattle.d_lexer.specs.Steps.Scan.{inside_at, head_at, token_at, front_at, Scanned}
 use Rattle.d_lexer.specs.Steps.Scan.{with_first_token}
 use Rattle.d_lexer.specs.Steps.Scan.{scan, TokensEnd, Clean, Bad}
-use Rattle.d_lexer.proofs.Base.{run_fills, run_is, scan_skip, EndsAs}
+use Rattle.d_lexer.proofs.Base.{run_fills, run_is, scan_skip, EndsAs, SpellsInside, spelled_inside}
+use Rattle.d_lexer.proofs.Base.{SpellInTurn, in_turn}
 use Rattle.d_lexer.proofs.Steps.{later_text, later_none}
 use Rattle.d_lexer.proofs.Numbers.{IsNoNumber, number_reads, none_reads}
 use Rattle.d_lexer.proofs.OptionLines.{option_reads, no_option_reads}
@@ -172,7 +173,7 @@ put_later2 : (x n m : ℕ) (w : List ℕ) (r : Result (List ℕ × ℕ) Flaw) �
 put_later2 x n m w (Err g) e = refl
 put_later2 x n m w (Ok t) e = let k : suc (suc (n + t.1)) ≡ m + t.1 = omega arith in rw k refl
 
-text_goes : (w body rest : List ℕ) → SpellsText body w → text_from false (body ++ rest) ≡ later_text w (length body) (text_from false rest)
+text_goes : (w body rest : List ℕ) → SpellInTurn body w → text_from false (body ++ rest) ≡ later_text w (length body) (text_from false rest)
 text_goes [] body rest h = rw h (sym (later_none (text_from false rest)))
 text_goes (x ∷ w) body rest h =
     let further = text_goes w h.1 rest h.4 in
@@ -261,7 +262,7 @@ head_kind_word own e = rw e refl
 head_kind_run : (own : List ℕ) → is_declaring own ≡ false → head_kind own ≡ kind.DescriptionRun own
 head_kind_run own e = rw e refl
 
-head_reads : (pos : Position) (own rest : List ℕ) (t : TokenKind) → SpellsHead own rest t → Reads Head pos own rest (λ n. Ok (front.Token t n))
+head_reads : (pos : Position) (own rest : List ℕ) (t : TokenKind) → SpellsToken Head own rest t → Reads Head pos own rest (λ n. Ok (front.Token t n))
 head_reads pos own rest (kind.DescriptionRun w) h = head_run pos own rest (kind.DescriptionRun w) (head_kind_run own h.1 ∙ ap kind.DescriptionRun (sym h.0)) h.2
 head_reads pos own rest (kind.Word w) h = head_run pos own rest (kind.Word w) (head_kind_word own h.1 ∙ ap kind.Word (sym h.0)) h.2
 head_reads pos own rest (kind.Mark k) h = mark_reads Head pos own rest k h
@@ -296,7 +297,7 @@ module _ (p : Place) (pos : Position) (i : is_head p ≡ false) where
   text_reads own rest w body is h =
       let e : length body + 1 ≡ length (body ++ 34 ∷ []) = omega (arith, length-append body (34 ∷ [])) in
       let read : text_from false ((body ++ 34 ∷ []) ++ rest) ≡ Ok (w, length (body ++ 34 ∷ [])) =
-      ap (text_from false) (append_assoc body (34 ∷ []) rest) ∙ text_goes w body (34 ∷ rest) h ∙ ap (later_text w (length body)) (text_ends rest)
+      ap (text_from false) (append_assoc body (34 ∷ []) rest) ∙ text_goes w body (34 ∷ rest) (in_turn body w h) ∙ ap (later_text w (length body)) (text_ends rest)
       ∙ rw (append-nil w) (ap (λ (n : ℕ). Ok (w, n)) e) in
       reads p pos 34 (body ++ 34 ∷ []) rest own (kind.TextConstant w) is (front_inside p pos 34 ((body ++ 34 ∷ []) ++ rest) i refl refl refl ∙ inside_text p ((body ++ 34 ∷ []) ++ rest) ∙ ap text_front read)
 
@@ -310,9 +311,9 @@ module _ (p : Place) (pos : Position) (i : is_head p ≡ false) where
 
 pub token_reads : (p : Place) (pos : Position) (own rest : List ℕ) (t : TokenKind) → SpellsToken p own rest t → Reads p pos own rest (λ n. Ok (front.Token t n))
 token_reads Head pos own rest t h = head_reads pos own rest t h
-token_reads Declaration pos own rest t h = inside_reads Declaration pos refl own rest t h
-token_reads Predicate pos own rest t h = inside_reads Predicate pos refl own rest t h
-token_reads Body pos own rest t h = inside_reads Body pos refl own rest t h
+token_reads Declaration pos own rest t h = inside_reads Declaration pos refl own rest t (spelled_inside Declaration own rest t refl h)
+token_reads Predicate pos own rest t h = inside_reads Predicate pos refl own rest t (spelled_inside Predicate own rest t refl h)
+token_reads Body pos own rest t h = inside_reads Body pos refl own rest t (spelled_inside Body own rest t refl h)
 
 -- ---- faults
 
@@ -345,7 +346,7 @@ fault_fails p pos bytes g (stray b z is h) =
 fault_fails p pos bytes g (open_comment z is h) = record { first = 47; others = 42 ∷ z; is = is; read = comment_fails p pos z h }
 fault_fails p pos bytes g (text body w rest i is spells stops) =
     let z = body ++ rest in
-    let read : text_from false z ≡ Err g = text_goes w body rest spells ∙ ap (later_text w (length body)) (text_stops g rest stops) in
+    let read : text_from false z ≡ Err g = text_goes w body rest (in_turn body w spells) ∙ ap (later_text w (length body)) (text_stops g rest stops) in
     record { first = 34; others = z; is = is; read = front_inside p pos 34 z i refl refl refl ∙ inside_text p z ∙ ap text_front read }
 fault_fails p pos bytes g (number own rest i is h e) = number_fails p pos bytes own rest is (number_run p pos i own rest None (none_run p pos i own rest h e) h)
 fault_fails p pos bytes g (other_option w rest is e1 e2 e3 h) = record { first = 35; others = w ++ rest; is = is; read = front_option p pos w rest false e1 e2 (no_option_reads (35 ∷ w) e3) h }

@@ -9,9 +9,10 @@ use Rattle.std.proofs.lemmas.Bool.Decides.{nat_tests}
 use Rattle.std.specs.Prelude.{option_and_then}
 use Rattle.std.specs.Char.{is_ascii_digit, is_digit, digit_value, to_ascii_lowercase}
 use Rattle.std.specs.Char.{eq_ignore_ascii_case}
+use Rattle.std.specs.Str.Parse.{AllDigits, digits_value, digits_value_after}
 use Rattle.d_lexer.specs.declared.token.Suffix.{Suffix}
 use Rattle.d_lexer.specs.declared.token.Suffix.TheVariants.{Absent, Unsigned, Long, UnsignedLong}
-use Rattle.d_lexer.specs.Numbers.{suffix_of, DigitsStandFor, IsBase}
+use Rattle.d_lexer.specs.Numbers.{suffix_of, IsBase}
 use Rattle.d_lexer.specs.Numbers.{hexadecimal, octal, decimal, IsIntegerConstant}
 use Rattle.d_lexer.specs.Steps.Numbers.{digit_of, is_u, is_l, is_x, suffix_by_letters, with_suffix}
 use Rattle.d_lexer.specs.Steps.Numbers.{number_by, number_from, hex_by, zero_from, number_spelled}
@@ -103,6 +104,54 @@ horner a base k p m =
     let f : a * base * p ≡ a * (p * base) = mul_assoc a base p ∙ ap (λ (x : ℕ). a * x) (mul_comm base p) in
     omega (arith, e, f)
 
+one_power : (base acc : ℕ) → acc ≡ acc * base ^ 0 + 0
+one_power base acc = rw (pow-zero base) (omega arith)
+
+no_first : (x y : ℕ) → 0 * x + y ≡ y
+no_first x y = omega arith
+
+-- ---- the value of digits, from the first on
+
+-- the digits of the base stand for the number: each for its value times a power of the base
+abbrev DigitsStandFor : ℕ → List ℕ → ℕ → Type 0
+DigitsStandFor base [] n = n ≡ 0
+DigitsStandFor base (d ∷ ds) n =
+    (m : ℕ) × (is_digit d base ≡ true) × DigitsStandFor base ds m
+    × (n ≡ digit_value d * base ^ length ds + m)
+
+value_after : (base n : ℕ) (ds : List ℕ) → digits_value_after base n ds ≡ n * base ^ length ds + digits_value base ds
+value_after base n [] = one_power base n
+value_after base n (d ∷ ds) =
+    let k = digit_value d in
+    let p = base ^ length ds in
+    let v = digits_value base ds in
+    let e : base ^ suc (length ds) ≡ p * base = pow-suc base (length ds) in
+    let own : digits_value_after base (0 * base + k) ds ≡ k * p + v = value_after base (0 * base + k) ds ∙ horner 0 base k p v ∙ no_first (p * base) (k * p + v) in
+    value_after base (n * base + k) ds ∙ horner n base k p v ∙ (λ i. n * (sym e i) + (sym own i))
+
+value_first : (base d : ℕ) (ds : List ℕ) → digits_value base (d ∷ ds) ≡ digit_value d * base ^ length ds + digits_value base ds
+value_first base d ds =
+    value_after base (0 * base + digit_value d) ds ∙ horner 0 base (digit_value d) (base ^ length ds) (digits_value base ds)
+    ∙ no_first (base ^ length ds * base) (digit_value d * base ^ length ds + digits_value base ds)
+
+passes : (v base : ℕ) → v < base → nat_lt v base ≡ true
+passes v base h = grind (arith, nat_tests)
+
+below : (v base : ℕ) → nat_lt v base ≡ true → v < base
+below v base h = grind (arith, nat_tests)
+
+stands_for : (base : ℕ) (ds : List ℕ) → AllDigits base ds → DigitsStandFor base ds (digits_value base ds)
+stands_for base [] h = refl
+stands_for base (d ∷ ds) h = (digits_value base ds, passes (digit_value d) base h.0, stands_for base ds h.1, value_first base d ds)
+
+are_digits : (base : ℕ) (ds : List ℕ) (n : ℕ) → DigitsStandFor base ds n → AllDigits base ds
+are_digits base [] n h = tt
+are_digits base (d ∷ ds) n h = (below (digit_value d) base h.1, are_digits base ds h.0 h.2)
+
+value_is : (base : ℕ) (ds : List ℕ) (n : ℕ) → DigitsStandFor base ds n → n ≡ digits_value base ds
+value_is base [] n h = h
+value_is base (d ∷ ds) n h = h.3 ∙ ap (λ (x : ℕ). digit_value d * base ^ length ds + x) (value_is base ds h.0 h.2) ∙ sym (value_first base d ds)
+
 -- ---- what is read is a number
 
 -- the digits after a first part acc, and the suffix
@@ -115,12 +164,6 @@ record ReadAs (base acc : ℕ) (z : List ℕ) (n : ℕ) (s : Suffix) : Type 0 wh
   whole : n ≡ acc * base ^ length digits + own
   fits : n < 2 ^ 64
   suffix : suffix_by_letters later ≡ Some s
-
-one_power : (base acc : ℕ) → acc ≡ acc * base ^ 0 + 0
-one_power base acc = rw (pow-zero base) (omega arith)
-
-no_first : (x y : ℕ) → 0 * x + y ≡ y
-no_first x y = omega arith
 
 abbrev pair : ℕ → Suffix → ℕ × Suffix
 pair n s = (n, s)
@@ -223,13 +266,15 @@ hex_is x d k z n s is dk r = by r.digits r.is r.value r.whole where
         later = r.later;
         is = ap (λ (xs : List ℕ). 48 ∷ (x ∷ xs)) cut;
         stated = hexadecimal x e digits refl refl (x_is x ∙ is) refl;
-        value = subst (DigitsStandFor 16 (e ∷ digits)) (sym n_is) value;
+        are = are_digits 16 (e ∷ digits) r.own value;
+        value = n_is ∙ value_is 16 (e ∷ digits) r.own value;
         fits = r.fits;
         suffix = suffix_is r.later ∙ r.suffix;
       }
 
 octal_is : (z : List ℕ) (n : ℕ) (s : Suffix) → ReadAs 8 0 z n s → IsIntegerConstant (48 ∷ z) n s
 octal_is z n s r =
+    let stands : DigitsStandFor 8 (48 ∷ r.digits) n = (r.own, refl, r.value, r.whole) in
     record {
       base = 8;
       before = [];
@@ -237,13 +282,15 @@ octal_is z n s r =
       later = r.later;
       is = ap (λ (xs : List ℕ). 48 ∷ xs) r.is;
       stated = octal r.digits refl refl refl;
-      value = (r.own, refl, r.value, r.whole);
+      are = are_digits 8 (48 ∷ r.digits) n stands;
+      value = value_is 8 (48 ∷ r.digits) n stands;
       fits = r.fits;
       suffix = suffix_is r.later ∙ r.suffix;
     }
 
 decimal_is : (d : ℕ) (z : List ℕ) (n : ℕ) (s : Suffix) → d ≢ 48 → (is_digit d 10 ≡ true) × (digit_value d ≡ d - 48) → ReadAs 10 (d - 48) z n s → IsIntegerConstant (d ∷ z) n s
 decimal_is d z n s other dk r =
+    let stands : DigitsStandFor 10 (d ∷ r.digits) n = (r.own, dk.0, r.value, r.whole ∙ ap (λ (k : ℕ). k * 10 ^ length r.digits + r.own) (sym dk.1)) in
     record {
       base = 10;
       before = [];
@@ -251,7 +298,8 @@ decimal_is d z n s other dk r =
       later = r.later;
       is = ap (λ (xs : List ℕ). d ∷ xs) r.is;
       stated = decimal d r.digits refl refl refl other;
-      value = (r.own, dk.0, r.value, r.whole ∙ ap (λ (k : ℕ). k * 10 ^ length r.digits + r.own) (sym dk.1));
+      are = are_digits 10 (d ∷ r.digits) n stands;
+      value = value_is 10 (d ∷ r.digits) n stands;
       fits = r.fits;
       suffix = suffix_is r.later ∙ r.suffix;
     }
@@ -365,7 +413,7 @@ later_zero x n = sym (no_first x n)
 
 -- a number is what is read
 pub number_reads : (own : List ℕ) (n : ℕ) (s : Suffix) → IsIntegerConstant own n s → number_spelled own ≡ Some (n, s)
-number_reads own n s h = let tail : suffix_by_letters h.later ≡ Some s = sym (suffix_is h.later) ∙ h.suffix in by tail h.base h.before h.digits h.stated h.is h.value where
+number_reads own n s h = let tail : suffix_by_letters h.later ≡ Some s = sym (suffix_is h.later) ∙ h.suffix in by tail h.base h.before h.digits h.stated h.is (subst (DigitsStandFor h.base h.digits) (sym h.value) (stands_for h.base h.digits h.are)) where
   by : suffix_by_letters h.later ≡ Some s → (base : ℕ) (before digits : List ℕ) → IsBase base before digits → own ≡ before ++ (digits ++ h.later) → DigitsStandFor base digits n → number_spelled own ≡ Some (n, s)
   by tail base before digits (hexadecimal x d ds b_is before_is is_x_either digits_is) is value =
       let v : DigitsStandFor 16 (d ∷ ds) n = subst (λ (xs : List ℕ). DigitsStandFor 16 xs n) digits_is (subst (λ (b : ℕ). DigitsStandFor b digits n) b_is value) in

@@ -1,16 +1,64 @@
 -- A line is read as an option line exactly where it is one.
 use Rattle.std.proofs.Common.{◌≡◌, eqb, ℕ, Bool, true, false, List, [], ◌∷◌, ◌++◌, Option, Some}
-use Rattle.std.proofs.Common.{None, Bor, ◌≢◌, MatchOption, refl, ap, ◌∙◌}
+use Rattle.std.proofs.Common.{None, Bor, ◌≢◌, MatchOption, refl, sym, ap, ◌∙◌, append_assoc}
 use Rattle.std.proofs.lemmas.Bool.{eqb-true, eq-eqb}
 use Rattle.std.specs.List.{AllByRecursion}
 use Rattle.std.specs.Prelude.{codes}
 use Rattle.d_lexer.specs.Bytes.{is_space}
-use Rattle.d_lexer.specs.OptionLine.{is_trailing, AreSpaces, AreSpacedWords, option_words}
-use Rattle.d_lexer.specs.OptionLine.{IsOptionLine}
+use Rattle.d_lexer.specs.OptionLine.{is_trailing, AreSpaces, IsOptionLine}
 use Rattle.d_lexer.specs.Steps.OptionLine.{FindsBytes, after_option_word, skip_spaces, after_spaces}
 use Rattle.d_lexer.specs.Steps.OptionLine.{is_trail, found_then}
-use Rattle.d_lexer.specs.Steps.OptionLine.{ends_line, next_word, after_option_words, is_option}
+use Rattle.d_lexer.specs.Steps.OptionLine.{ends_line, next_word, option_words}
+use Rattle.d_lexer.specs.Steps.OptionLine.{after_option_words, is_option}
 use Rattle.d_lexer.proofs.Base.{both_true, cond_is}
+
+-- ---- the words of an option line, one after the other
+
+-- these words with spaces before each, and then perhaps spaces and carriage returns
+abbrev AreSpacedWords : List (List ℕ) → List ℕ → Type 0
+AreSpacedWords [] z = AllByRecursion (λ c. is_trailing c ≡ true) z
+AreSpacedWords (w ∷ ws) z =
+    (own : List ℕ) × (rest : List ℕ) × AreSpaces own × (z ≡ own ++ (w ++ rest))
+    × AreSpacedWords ws rest
+
+abbrev IsSpacedLine : List ℕ → Type 0
+IsSpacedLine own = (rest : List ℕ) × (own ≡ codes "#pragma" ++ rest) × AreSpacedWords option_words rest
+
+-- what is joined from the left is joined from the right
+joined : (a b c d e f g z : List ℕ) → a ++ b ++ c ++ d ++ e ++ f ++ g ++ z ≡ a ++ (b ++ (c ++ (d ++ (e ++ (f ++ (g ++ z))))))
+joined a b c d e f g z =
+    append_assoc (a ++ b ++ c ++ d ++ e ++ f) g z ∙ append_assoc (a ++ b ++ c ++ d ++ e) f (g ++ z)
+    ∙ append_assoc (a ++ b ++ c ++ d) e (f ++ (g ++ z)) ∙ append_assoc (a ++ b ++ c) d (e ++ (f ++ (g ++ z)))
+    ∙ append_assoc (a ++ b) c (d ++ (e ++ (f ++ (g ++ z)))) ∙ append_assoc a b (c ++ (d ++ (e ++ (f ++ (g ++ z)))))
+
+spaced_of : (own : List ℕ) → IsOptionLine own → IsSpacedLine own
+spaced_of own (a, b, c, end, first, second, third, trail, is) = (
+  a ++ (codes "D" ++ (b ++ (codes "option" ++ (c ++ (codes "quiet" ++ end))))),
+  is ∙ joined (codes "#pragma") a (codes "D") b (codes "option") c (codes "quiet") end,
+  (
+    a,
+    b ++ (codes "option" ++ (c ++ (codes "quiet" ++ end))),
+    first,
+    refl,
+    (b, c ++ (codes "quiet" ++ end), second, refl, (c, end, third, refl, trail)),
+  ),
+)
+
+line_of : (own : List ℕ) → IsSpacedLine own → IsOptionLine own
+line_of own (rest, is, (a, after, first, rest_is, (b, later, second, after_is, (c, end, third, later_is, trail)))) = (
+  a,
+  b,
+  c,
+  end,
+  first,
+  second,
+  third,
+  trail,
+  is ∙ ap (λ (xs : List ℕ). codes "#pragma" ++ xs) (rest_is
+      ∙ ap (λ (xs : List ℕ). a ++ (codes "D" ++ xs)) (after_is
+      ∙ ap (λ (xs : List ℕ). b ++ (codes "option" ++ xs)) later_is))
+      ∙ sym (joined (codes "#pragma") a (codes "D") b (codes "option") c (codes "quiet") end),
+)
 
 -- ---- what is read is an option line
 
@@ -74,7 +122,7 @@ pub option_is : (own : List ℕ) → is_option own ≡ true → IsOptionLine own
 unfolding is_option
 option_is own e =
     let s = found (after_option_word (codes "#pragma") own) (after_option_words option_words) e in
-    (s.0, later_is (codes "#pragma") own s.0 s.1, words_are option_words s.0 s.2)
+    line_of own (s.0, later_is (codes "#pragma") own s.0 s.1, words_are option_words s.0 s.2)
 
 -- ---- an option line is read
 
@@ -114,7 +162,8 @@ words_read (w ∷ ws) z begin h =
 
 pub option_reads : (own : List ℕ) → IsOptionLine own → is_option own ≡ true
 unfolding is_option
-option_reads own h =
+option_reads own line =
+    let h = spaced_of own line in
     let e : after_option_word (codes "#pragma") own ≡ Some h.0 = ap (after_option_word (codes "#pragma")) h.1 ∙ later_own (codes "#pragma") h.0 in
     rw e (words_read option_words h.0 (refl, (refl, (refl, tt))) h.2)
 

@@ -27,7 +27,7 @@ use Rattle.d_lexer.specs.Places.{place_after}
 use Rattle.d_lexer.specs.Steps.OptionLine.{is_option}
 use Rattle.d_lexer.specs.Tokens.{Fills, HasNoEnd, IsSeparator, blank, comment, first_line}
 use Rattle.d_lexer.specs.Tokens.{option_line}
-use Rattle.d_lexer.specs.Tokens.{here, past, IsLongestRun, SpellsText, IsMark, SpellsInside}
+use Rattle.d_lexer.specs.Tokens.{here, past, IsLongestRun, IsMark}
 use Rattle.d_lexer.specs.Tokens.{SpellsToken}
 use Rattle.d_lexer.specs.Tokens.{Lexes}
 use Rattle.d_lexer.specs.Faults.{begins, StopsText, IsFrontFault, stray, open_comment, text}
@@ -39,6 +39,7 @@ use Rattle.d_lexer.specs.Steps.Scan.{one_longer, comment_from, mark_at, mark_fro
 use Rattle.d_lexer.specs.Steps.Scan.{comment_front, head_kind, aggregation_front, text_front}
 use Rattle.d_lexer.specs.Steps.Scan.{inside_at, head_at, token_at, front_at, Scanned, scan_by, scan}
 use Rattle.d_lexer.proofs.Base.{both_true, Split, cond_is, run_splits, run_is, EndsAs}
+use Rattle.d_lexer.proofs.Base.{inside_spells, SpellInTurn, spell_text}
 use Rattle.d_lexer.proofs.Numbers.{number_is, none_is}
 use Rattle.d_lexer.proofs.OptionLines.{option_is, no_option_is}
 use Rattle.d_lexer.proofs.Marks.{MarkIs, mark_sound}
@@ -95,11 +96,11 @@ comment_sound (b ∷ z) =
 
 -- good bytes of a text constant, and then what is wrong
 abbrev BreaksText : List ℕ → Flaw → Type 0
-BreaksText z g = (body : List ℕ) × (w : List ℕ) × (rest : List ℕ) × (z ≡ body ++ rest) × SpellsText body w × StopsText g rest
+BreaksText z g = (body : List ℕ) × (w : List ℕ) × (rest : List ℕ) × (z ≡ body ++ rest) × SpellInTurn body w × StopsText g rest
 
 abbrev TextIs : List ℕ → Result (List ℕ × ℕ) Flaw → Type 0
 TextIs z (Err g) = BreaksText z g
-TextIs z (Ok t) = Split (λ own rest. (body : List ℕ) × (own ≡ body ++ 34 ∷ []) × SpellsText body t.0) t.1 z
+TextIs z (Ok t) = Split (λ own rest. (body : List ℕ) × (own ≡ body ++ 34 ∷ []) × SpellInTurn body t.0) t.1 z
 
 text_plain : (b : ℕ) (z : List ℕ) → stands_for_itself b ≡ true → (r : Result (List ℕ × ℕ) Flaw) → TextIs z r → TextIs (b ∷ z) (with_byte b r)
 text_plain b z e (Err g) h = (b ∷ h.0, b ∷ h.1, h.2, ap (λ (xs : List ℕ). b ∷ xs) h.3, (b ∷ [], h.0, refl, inl (e, refl), h.4), h.5)
@@ -147,12 +148,6 @@ text_sound (b ∷ []) = text_step b [] (text_sound []) ([], [], 92 ∷ [], refl,
 text_sound (b ∷ c ∷ z) = text_step b (c ∷ z) (text_sound (c ∷ z)) (text_escape c z (text_from false z) (text_sound z) (escape_of c) refl)
 
 -- ---- tokens
-
-inside_spells : (p : Place) (own rest : List ℕ) (t : TokenKind) → is_head p ≡ false → SpellsInside p own rest t → SpellsToken p own rest t
-inside_spells Head own rest t e h = absurd cc
-inside_spells Declaration own rest t e h = h
-inside_spells Predicate own rest t e h = h
-inside_spells Body own rest t e h = h
 
 inside_begins : (p : Place) (b : ℕ) → is_head p ≡ false → (is_word_start b || is_ascii_digit b || eqb b 64 || eqb b 34) ≡ false → begins p b ≡ false
 inside_begins Head b e h = absurd cc
@@ -207,9 +202,9 @@ agg_sound p pos (b ∷ z) inside =
     (λ e. record { own = []; rest = b ∷ z; is = refl; size = refl; holds = inside_spells p (64 ∷ []) (b ∷ z) (kind.AggregationName (95 ∷ [])) inside (inl (refl, refl, e)) })
 
 text_front_sound : (p : Place) (pos : Position) (z : List ℕ) → is_head p ≡ false → (r : Result (List ℕ × ℕ) Flaw) → TextIs z r → FrontIs p pos 34 z (text_front r)
-text_front_sound p pos z inside (Err g) h = text h.0 h.1 h.2 inside (ap (λ (xs : List ℕ). 34 ∷ xs) h.3) h.4 h.5
+text_front_sound p pos z inside (Err g) h = text h.0 h.1 h.2 inside (ap (λ (xs : List ℕ). 34 ∷ xs) h.3) (spell_text h.0 h.1 h.4) h.5
 text_front_sound p pos z inside (Ok t) s =
-    record { own = s.own; rest = s.rest; is = s.is; size = s.size; holds = inside_spells p (34 ∷ s.own) s.rest (kind.TextConstant t.0) inside (s.holds.0, ap (λ (xs : List ℕ). 34 ∷ xs) s.holds.1, s.holds.2) }
+    record { own = s.own; rest = s.rest; is = s.is; size = s.size; holds = inside_spells p (34 ∷ s.own) s.rest (kind.TextConstant t.0) inside (s.holds.0, ap (λ (xs : List ℕ). 34 ∷ xs) s.holds.1, spell_text s.holds.0 t.0 s.holds.2) }
 
 inside_sound : (p : Place) (pos : Position) (b : ℕ) (z : List ℕ) → is_head p ≡ false → IsTokenByte p pos b z → FrontIs p pos b z (inside_at p b z)
 unfolding inside_at

@@ -1,9 +1,9 @@
 -- Numbers: what a run of letters and digits stands for.
 -- Source: Dynamic Tracing Guide, "Constants".
-use Rattle.std.specs.Prelude.{◌≡◌, ◌≢◌, ℕ, ◌+◌, ◌*◌, ◌^◌, ◌<◌, true, Option, Some, List, []}
-use Rattle.std.specs.Prelude.{◌∷◌, ◌++◌, length, map, codes}
-use Rattle.std.specs.{Map.lookup, Str.bytes_eq, Str.byte}
-use Rattle.std.specs.Char.{digit_value, is_digit, to_ascii_lowercase, eq_ignore_ascii_case}
+use Rattle.std.specs.Prelude.{◌≡◌, ◌≢◌, ℕ, ◌^◌, ◌<◌, true, Option, Some, List, [], ◌∷◌, ◌++◌, map}
+use Rattle.std.specs.Prelude.{codes}
+use Rattle.std.specs.{Map.lookup, Str.bytes_eq, Str.byte, Str.Parse.AllDigits, Str.Parse.digits_value}
+use Rattle.std.specs.Char.{to_ascii_lowercase, eq_ignore_ascii_case}
 use Rattle.d_lexer.specs.declared.token.Suffix.{Suffix}
 use Rattle.d_lexer.specs.declared.token.Suffix.TheVariants.{Absent, Unsigned, Long, UnsignedLong}
 
@@ -17,13 +17,6 @@ suffixes =
 unfoldable pub suffix_of : List ℕ → Option Suffix
 suffix_of letters = lookup (bytes_eq (map to_ascii_lowercase letters)) suffixes
 
--- the digits of the base stand for the number: each for its value times a power of the base
-abbrev pub DigitsStandFor : ℕ → List ℕ → ℕ → Type 0
-DigitsStandFor base [] n = n ≡ 0
-DigitsStandFor base (d ∷ ds) n =
-    (m : ℕ) × (is_digit d base ≡ true) × DigitsStandFor base ds m
-    × (n ≡ digit_value d * base ^ length ds + m)
-
 -- how the base is written: 0x and hexadecimal digits, 0 and perhaps octal digits, or decimal digits
 -- that begin with another
 pub data IsBase (base : ℕ) (before digits : List ℕ) : Type 0 where
@@ -34,7 +27,7 @@ pub data IsBase (base : ℕ) (before digits : List ℕ) : Type 0 where
   decimal : (d : ℕ) (ds : List ℕ) → base ≡ 10 → before ≡ [] → digits ≡ d ∷ ds → d ≢ byte "0"
       → IsBase base before digits
 
--- the bytes are digits that stand for n, below 2 ^ 64, and a suffix
+-- the bytes are digits of the base, whose value is n, below 2 ^ 64, and a suffix
 pub record IsIntegerConstant (own : List ℕ) (n : ℕ) (s : Suffix) : Type 0 where
   pub base : ℕ
   pub before : List ℕ
@@ -42,6 +35,7 @@ pub record IsIntegerConstant (own : List ℕ) (n : ℕ) (s : Suffix) : Type 0 wh
   pub later : List ℕ
   pub is : own ≡ before ++ (digits ++ later)
   pub stated : IsBase base before digits
-  pub value : DigitsStandFor base digits n
+  pub are : AllDigits base digits
+  pub value : n ≡ digits_value base digits
   pub fits : n < 2 ^ 64
   pub suffix : suffix_of later ≡ Some s

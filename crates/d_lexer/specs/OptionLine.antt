@@ -15,18 +15,10 @@ abbrev pub AreSpaces : List ℕ → Type 0
 AreSpaces [] = ⊥
 AreSpaces (b ∷ bs) = AllByRecursion (λ c. is_space c ≡ true) (b ∷ bs)
 
--- these words with spaces before each, and then perhaps spaces and carriage returns
-abbrev pub AreSpacedWords : List (List ℕ) → List ℕ → Type 0
-AreSpacedWords [] z = AllByRecursion (λ c. is_trailing c ≡ true) z
-AreSpacedWords (w ∷ ws) z =
-    (own : List ℕ) × (rest : List ℕ) × AreSpaces own × (z ≡ own ++ (w ++ rest))
-    × AreSpacedWords ws rest
-
--- the words after #pragma
-abbrev pub option_words : List (List ℕ)
-option_words = codes "D" ∷ codes "option" ∷ codes "quiet" ∷ []
-
--- a line's bytes from its # on
+-- a line's bytes from its # on: four words with spaces between them, and then perhaps spaces and
+-- carriage returns
 abbrev pub IsOptionLine : List ℕ → Type 0
 IsOptionLine own =
-    (rest : List ℕ) × (own ≡ codes "#pragma" ++ rest) × AreSpacedWords option_words rest
+    (a : List ℕ) × (b : List ℕ) × (c : List ℕ) × (end : List ℕ) × AreSpaces a × AreSpaces b
+    × AreSpaces c × AllByRecursion (λ d. is_trailing d ≡ true) end
+    × (own ≡ codes "#pragma" ++ a ++ codes "D" ++ b ++ codes "option" ++ c ++ codes "quiet" ++ end)

@@ -1,7 +1,7 @@
 -- Where in the bytes, and in which of the four places.
 -- Source: Dynamic Tracing Guide, "D Program Structure".
-use Rattle.std.specs.Prelude.{ℕ, ◌+◌, ◌==◌, Bool, true, false, ◌&&◌, ◌||◌, if◌then◌else◌, List, []}
-use Rattle.std.specs.Prelude.{◌∷◌}
+use Rattle.std.specs.Prelude.{ℕ, ◌+◌, ◌==◌, Bool, true, false, ◌&&◌, ◌||◌, if◌then◌else◌, List}
+use Rattle.std.specs.List.{fold}
 use Rattle.d_lexer.specs.Vocabulary.{Mark, TokenKind, Place, Head, Declaration, Predicate, Body}
 use Rattle.d_lexer.specs.Vocabulary.{Position}
 use Rattle.std.specs.Str.{byte}
@@ -23,8 +23,7 @@ after_byte pos b = record {
 
 -- the position after the bytes
 abbrev pub position_after : Position → List ℕ → Position
-position_after pos [] = pos
-position_after pos (b ∷ bs) = position_after (after_byte pos b) bs
+position_after pos bytes = fold after_byte pos bytes
 
 -- ---- lines that are no tokens
 

@@ -4,7 +4,7 @@ use Rattle.std.specs.Prelude.{◌≡◌, ℕ, ◌+◌, ◌≤◌, ◌⊎◌, Boo
 use Rattle.std.specs.Prelude.{[], ◌∷◌, ◌++◌, length, codes}
 use Rattle.d_lexer.specs.Vocabulary.{AllByRecursion, is_ascii_digit, Mark, Token, TokenKind, Place}
 use Rattle.d_lexer.specs.Vocabulary.{Head, Position}
-use Rattle.std.specs.Str.{byte}
+use Rattle.std.specs.{Str.byte, List.AllZip, List.concat}
 use Rattle.d_lexer.specs.Bytes.{next_is, is_blank_byte}
 use Rattle.d_lexer.specs.Bytes.{is_word_start, is_word_byte, is_run_byte, is_inside}
 use Rattle.d_lexer.specs.Bytes.{stands_for_itself, begins_comment, escape_of, is_declaring}
@@ -57,17 +57,15 @@ IsLongestRun first other [] rest = ⊥
 IsLongestRun first other (b ∷ bs) rest = (first b ≡ true) × Fills other bs rest
 
 -- how one byte of a text constant is written: as it is, or as an escape
-abbrev pub SpellsByte : List ℕ → ℕ → Type 0
-SpellsByte own x =
+abbrev pub SpellsByte : ℕ → List ℕ → Type 0
+SpellsByte x own =
     ((stands_for_itself x ≡ true) × (own ≡ x ∷ []))
     ⊎ ((e : ℕ) × (escape_of e ≡ Some x) × (own ≡ byte "\\" ∷ (e ∷ [])))
 
 -- how the bytes of a text constant are written, one after the other
 abbrev pub SpellsText : List ℕ → List ℕ → Type 0
-SpellsText own [] = own ≡ []
-SpellsText own (x ∷ xs) =
-    (first : List ℕ) × (others : List ℕ) × (own ≡ first ++ others)
-    × SpellsByte first x × SpellsText others xs
+SpellsText own bytes =
+    (parts : List (List ℕ)) × AllZip SpellsByte bytes parts × (own ≡ concat parts)
 
 -- these are the mark's bytes, and no longer mark and no comment begins there
 pub record IsMark (p : Place) (own rest : List ℕ) (k : Mark) : Type 0 where
@@ -82,31 +80,23 @@ SpellsAggregation own rest w =
     ((own ≡ codes "@") × (w ≡ codes "_") × StopsAt is_word_start rest)
     ⊎ ((own ≡ codes "@" ++ w) × IsLongestRun is_word_start is_word_byte w rest)
 
--- a token of a declaration, a predicate or a body
-abbrev pub SpellsInside : Place → (own rest : List ℕ) → TokenKind → Type 0
-SpellsInside p own rest (TokenKind.DescriptionRun w) = ⊥
-SpellsInside p own rest (TokenKind.Word w) = (w ≡ own)
-    × IsLongestRun is_word_start is_word_byte own rest
-SpellsInside p own rest (TokenKind.AggregationName w) = SpellsAggregation own rest w
-SpellsInside p own rest (TokenKind.Number n s) =
-    IsIntegerConstant own n s × IsLongestRun is_ascii_digit is_word_byte own rest
-SpellsInside p own rest (TokenKind.TextConstant w) =
-    (body : List ℕ) × (own ≡ byte "\"" ∷ (body ++ byte "\"" ∷ [])) × SpellsText body w
-SpellsInside p own rest (TokenKind.Mark k) = IsMark p own rest k
-
--- a token of the head: self and this are words
-abbrev pub SpellsHead : (own rest : List ℕ) → TokenKind → Type 0
-SpellsHead own rest (TokenKind.DescriptionRun w) =
-    (w ≡ own) × (is_declaring own ≡ false) × IsLongestRun is_run_byte is_run_byte own rest
-SpellsHead own rest (TokenKind.Word w) =
-    (w ≡ own) × (is_declaring own ≡ true) × IsLongestRun is_run_byte is_run_byte own rest
-SpellsHead own rest (TokenKind.Mark k) = IsMark Head own rest k
-SpellsHead own rest t = ⊥
-
--- own is the longest spelling of the token at the front of own ++ rest
+-- Own is the longest spelling of the token at the front of own ++ rest. In the head self and this
+-- are words, and there are no other tokens but runs of descriptions and marks.
 abbrev pub SpellsToken : Place → (own rest : List ℕ) → TokenKind → Type 0
-SpellsToken Head own rest t = SpellsHead own rest t
-SpellsToken p own rest t = SpellsInside p own rest t
+SpellsToken p own rest (TokenKind.Mark k) = IsMark p own rest k
+SpellsToken Head own rest (TokenKind.DescriptionRun w) =
+    (w ≡ own) × (is_declaring own ≡ false) × IsLongestRun is_run_byte is_run_byte own rest
+SpellsToken Head own rest (TokenKind.Word w) =
+    (w ≡ own) × (is_declaring own ≡ true) × IsLongestRun is_run_byte is_run_byte own rest
+SpellsToken Head own rest t = ⊥
+SpellsToken p own rest (TokenKind.Word w) =
+    (w ≡ own) × IsLongestRun is_word_start is_word_byte own rest
+SpellsToken p own rest (TokenKind.AggregationName w) = SpellsAggregation own rest w
+SpellsToken p own rest (TokenKind.Number n s) =
+    IsIntegerConstant own n s × IsLongestRun is_ascii_digit is_word_byte own rest
+SpellsToken p own rest (TokenKind.TextConstant w) =
+    (body : List ℕ) × (own ≡ byte "\"" ∷ (body ++ byte "\"" ∷ [])) × SpellsText body w
+SpellsToken p own rest t = ⊥
 
 -- ---- all of the bytes
 

@@ -3,7 +3,7 @@ use Rattle.std.specs.Prelude.{◌≡◌, ℕ, Bool, false, if◌then◌else◌, 
 use Rattle.std.specs.Prelude.{List, [], ◌∷◌, Option, Some, None, codes}
 use Rattle.std.specs.List.{list_all}
 use Rattle.d_lexer.specs.Bytes.{is_space}
-pub use Rattle.d_lexer.specs.OptionLine.{is_trailing, option_words}
+pub use Rattle.d_lexer.specs.OptionLine.{is_trailing}
 
 -- what is left after a word
 unfoldable pub after_option_word : List ℕ → List ℕ → Option (List ℕ)
@@ -38,6 +38,10 @@ ends_line (Some z) = is_trail z
 -- what is left after spaces and a word
 abbrev pub next_word : List ℕ → List ℕ → Option (List ℕ)
 next_word w z = found_then (after_spaces z) (after_option_word w)
+
+-- the words after #pragma
+abbrev pub option_words : List (List ℕ)
+option_words = codes "D" ∷ codes "option" ∷ codes "quiet" ∷ []
 
 -- what is left after several words
 abbrev pub after_option_words : List (List ℕ) → List ℕ → Option (List ℕ)
