@@ -4,7 +4,8 @@ An edit of a text that stands in its file more often has a line `# in:` with its
 as `Type::name`, and then `# old:` and `# new:`. rt passes over these. The lines `old:` and `new:`
 after them are for rt, and `tests/edits --write` makes them: they write the changed text behind the
 nearest line before it that stands once in the file, and put what was there into a comment, which
-ends at the nearest such line behind it.
+ends at the nearest such line behind it. A control, which rt doesn't read, has no such lines: after
+`# new:` come the pairs of its proofs' files.
 """
 import re
 
@@ -36,11 +37,19 @@ def changed_text(edit, text):
     return text[:at] + edit["new"] + text[at + len(edit["old"]) :]
 
 
+def plain_pairs(edit):
+    """Returns what of an edit is of whole files: all of it, or the pairs of other files."""
+    if not IN_FUNCTION.match(edit):
+        return edit
+    _, *others = edit.split("\nfile: ")
+    return "\n".join(f"file: {it}" for it in others)
+
+
 def edited(rt, edits, folder):
     """Returns the texts of a folder's files with these edits applied, by their paths, or why they
     can't be."""
     edits = [read(it) for it in edits]
-    plain = [it for it in edits if not IN_FUNCTION.match(it)]
+    plain = [*filter(None, map(plain_pairs, edits))]
     texts, why = rt.edited("\n".join(plain), folder) if plain else ({}, None)
     for edit in filter(None, map(IN_FUNCTION.match, edits)):
         if not why:
