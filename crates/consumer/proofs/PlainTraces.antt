@@ -1,11 +1,11 @@
 -- A trace's fault, by its definition, is never want of memory.
 use Rattle.std.proofs.Common.{◌≡◌, ◌≢◌, ℕ, ◌+◌, Bool, true, false, cond, ◌==◌, nat_lt, List}
 use Rattle.std.proofs.Common.{[], ◌∷◌, Option, Some, None, length, map}
-use Rattle.std.specs.Prelude.{Result, Ok, Err, codes, not}
+use Rattle.std.specs.Prelude.{Result, Ok, Err, codes, not, ok_or}
 use Rattle.std.specs.Str.{bytes_eq}
 use Rattle.firing_reader.specs.Column.{Argument, Column, Content, Whole, Words, columns, fault_of}
 use Rattle.firing_reader.specs.Column.{field, value_of}
-use Rattle.firing_reader.specs.Row.{◌>>=◌, columns_at, number_in, numbers_at, or_fault}
+use Rattle.firing_reader.specs.Row.{◌>>=◌, columns_at, number_in, numbers_at}
 use Rattle.firing_reader.specs.Trace.{checked, is_header, next_of, rows_of, trace_in, trace_of}
 use Rattle.firing_reader.specs.declared.fault.TraceFault.{TraceFault}
 use Rattle.firing_reader.specs.declared.fault.TraceFault.TheVariants.{Header, Columns, Order}
@@ -21,7 +21,7 @@ bind : {A B : Type 0} (r : Result A TraceFault) (f : A → Result B TraceFault) 
 bind (Ok x) f first next = next x
 bind (Err e) f first next = first
 
-or_sound : {A : Type 0} (o : Option A) (e : TraceFault) → e ≢ Memory → Sound (or_fault o e)
+or_sound : {A : Type 0} (o : Option A) (e : TraceFault) → e ≢ Memory → Sound (ok_or o e)
 or_sound None e h = h
 or_sound (Some x) e h = tt
 
@@ -38,7 +38,7 @@ numbers_sound : (row : ℕ) (cs : List Column) (fields : List (List ℕ)) → So
 unfolding numbers_at number_in
 numbers_sound row [] fields = tt
 numbers_sound row ((place, name, content) ∷ cs) fields =
-    bind (or_fault (value_of content (field fields place)) (fault_of content row place)) _ (or_sound _ _ (fault_sound content row place))
+    bind (ok_or (value_of content (field fields place)) (fault_of content row place)) _ (or_sound _ _ (fault_sound content row place))
     (λ n. bind (numbers_at row cs fields) _ (numbers_sound row cs fields) (λ ns. tt))
 
 checked_sound : (row last : ℕ) (f : Firing) → Sound (checked row last f)

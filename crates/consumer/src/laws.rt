@@ -32,7 +32,7 @@ pub fn has_division()
 {}
 
 /// If a layout shows each run by one text, a script and a trace have one answer at most: bytes
-/// and a status, or a refusal, whose line is no part of it if there is no tree.
+/// and a status, or a refusal. The line of a refusal belongs to the answer if there is a tree.
 pub fn one_answer<L: Layout>()
     ensures { ShowsEach L.shows
         → (script trace : List ℕ) (a b : Result Shown Refusal)

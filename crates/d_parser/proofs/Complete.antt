@@ -42,7 +42,7 @@ use Rattle.d_parser.specs.Marks.{assign_mark, unary_mark, step_mark}
 use Rattle.d_parser.specs.{Symbols.binary_mark, Steps.Marks.level_of}
 use Rattle.d_parser.specs.Steps.Marks.{prefix_of, follow_of, follow_at, kind_is, is_at, same_mark}
 use Rattle.d_parser.specs.Steps.Marks.{tail}
-use Rattle.d_parser.specs.Grammar.{token, IsToken, IsMark, Within, IsOfLevel, level, IsWord, IsMember}
+use Rattle.d_parser.specs.Grammar.{IsToken, IsMark, Within, IsOfLevel, level, IsWord, IsMember}
 use Rattle.d_parser.specs.Grammar.{IsTarget, IsEnclosed, Spells, SpellsKeys, SpellsList, SpellsMore}
 use Rattle.d_parser.specs.Steps.Reading.{after_mark, plain_word, member, variable, typed_by}
 use Rattle.d_parser.specs.Steps.Reading.{is_typed}
@@ -59,6 +59,7 @@ use Rattle.d_parser.proofs.Signs.{unary_prefix, step_prefix, step_follow, assign
 use Rattle.d_parser.proofs.Signs.{binary_follow}
 use Rattle.d_parser.proofs.Runs.{AreWords, run_is, later_is}
 use Rattle.d_parser.proofs.Types.{type_is, type_words}
+use Rattle.d_parser.proofs.Tokens.{token}
 
 -- ---- what follows
 

@@ -19,8 +19,8 @@ use Rattle.d_parser.specs.Tree.{OfThread, OfClause, ClauseTree, ItemTree, Declar
 use Rattle.d_parser.specs.Words.{word_kind}
 use Rattle.d_parser.specs.Steps.Words.{run, after_run}
 use Rattle.d_parser.specs.Steps.Marks.{prefix_of, is_at, same_mark, tail}
-use Rattle.d_parser.specs.Grammar.{token, IsToken, IsMark, IsType}
-use Rattle.d_parser.specs.Script.{EachAfter, SeparatedBy, IsStmt, IsOptionalStmt, present, AreStmts}
+use Rattle.d_parser.specs.Grammar.{IsToken, IsMark, IsType}
+use Rattle.d_parser.specs.Script.{EachAfter, SeparatedBy, IsStmt, IsOptionalStmt, AreStmts}
 use Rattle.d_parser.specs.Script.{IsDescription, IsPredicate, IsClause, AreKeyTypes, IsDeclared}
 use Rattle.d_parser.specs.Script.{IsItem, IsScript}
 use Rattle.d_parser.specs.Steps.Reading.{◌>>=◌, readers, arguments, unary, unary_at_mark, binary}
@@ -43,6 +43,7 @@ use Rattle.d_parser.proofs.Complete.{arguments_read}
 use Rattle.d_parser.proofs.Descriptions.{described}
 use Rattle.d_parser.proofs.Runs.{run_is, later_is}
 use Rattle.d_parser.proofs.Types.{type_words}
+use Rattle.d_parser.proofs.Tokens.{token, present}
 
 -- ---- statements
 

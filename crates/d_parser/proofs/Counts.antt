@@ -11,13 +11,14 @@ use Rattle.d_parser.specs.Tree.{OfClause, ClauseTree, ItemTree, Declared, Probin
 use Rattle.d_parser.specs.declared.words.WordKind.{WordKind}
 use Rattle.d_parser.specs.declared.words.WordKind.TheVariants as w
 use Rattle.d_parser.specs.Grammar.{IsType}
-use Rattle.d_parser.specs.Script.{EachAfter, SeparatedBy, IsStmt, IsOptionalStmt, present, AreStmts}
+use Rattle.d_parser.specs.Script.{EachAfter, SeparatedBy, IsStmt, IsOptionalStmt, AreStmts}
 use Rattle.d_parser.specs.Script.{IsDescription, IsPredicate, IsClause, AreKeyTypes, IsDeclared}
 use Rattle.d_parser.specs.Script.{IsDeclaration, IsItem, IsScript}
 use Rattle.d_parser.specs.Sizes.{in_all, in_predicate, in_stmt, variables}
 use Rattle.d_parser.specs.Sizes.{descriptions, statements, IsWithin}
 use Rattle.d_parser.proofs.Takes.{Uses, sign_one, word_one, type_takes, keys_use, list_uses}
 use Rattle.d_parser.proofs.Takes.{expr_uses, between_takes}
+use Rattle.d_parser.proofs.Tokens.{present}
 
 same : (ts rest : List Token) → ts ≡ rest → length ts ≡ length rest
 same ts rest e = ap length e

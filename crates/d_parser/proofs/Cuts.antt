@@ -2,8 +2,7 @@
 use Rattle.std.proofs.Common.{◌≡◌, ℕ, suc, ◌-◌, ◌<◌, Bool, true, false, cond, List, [], ◌∷◌, length}
 use Rattle.std.proofs.Common.{take, Option, Some, None, refl, ap, arith}
 use Rattle.std.specs.Prelude.{◌==◌}
-use Rattle.d_parser.specs.Script.{colon}
-use Rattle.d_parser.specs.Steps.Script.{before_colon, after_colon}
+use Rattle.d_parser.specs.Steps.Script.{colon, before_colon, after_colon}
 
 whole_by : (b : Bool) (x : ℕ) (bytes before : List ℕ) (o : Option (List ℕ)) → (o ≡ None → before ≡ bytes) → cond b (Some bytes) o ≡ None → cond b [] (x ∷ before) ≡ x ∷ bytes
 whole_by true x bytes before o f e = absurd cc

@@ -8,9 +8,10 @@ use Rattle.std.proofs.lemmas.Bool.{eqb-true, not-true}
 use Rattle.d_lexer.specs.declared.token.Token.{Token}
 use Rattle.d_parser.specs.declared.tree.Description.{Description}
 use Rattle.std.specs.List.{join_with_byte}
-use Rattle.d_parser.specs.Script.{list_all, colon, is_ascii_digit}
+use Rattle.d_parser.specs.Script.{list_all, is_ascii_digit}
 use Rattle.d_parser.specs.Script.{IsDescription}
-use Rattle.d_parser.specs.Steps.Script.{description_with, before_colon, after_colon, with_first}
+use Rattle.d_parser.specs.Steps.Script.{description_with, colon, before_colon, after_colon}
+use Rattle.d_parser.specs.Steps.Script.{with_first}
 use Rattle.d_parser.specs.Steps.Script.{fields, description_from, description_of}
 use Rattle.d_parser.proofs.Cuts.{whole_field}
 

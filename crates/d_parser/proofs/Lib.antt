@@ -1,5 +1,6 @@
 pub mod Rows
 pub mod Steps
+pub mod Tokens
 pub mod Runs
 pub mod Types
 pub mod Signs

@@ -28,9 +28,10 @@ use Rattle.d_parser.specs.Grammar.{SpellsList, SpellsMore}
 use Rattle.d_parser.specs.Steps.Marks.{level_of}
 use Rattle.d_parser.specs.Numbers.{IsSmall, HasSmall, HaveSmall, InPredicate, InStatement}
 use Rattle.d_parser.specs.Numbers.{InStatements, AreSmall}
-use Rattle.d_parser.specs.Script.{EachAfter, SeparatedBy, IsStmt, IsOptionalStmt, present, AreStmts}
+use Rattle.d_parser.specs.Script.{EachAfter, SeparatedBy, IsStmt, IsOptionalStmt, AreStmts}
 use Rattle.d_parser.specs.Script.{IsDescription, IsPredicate, IsClause, AreKeyTypes, IsDeclared}
 use Rattle.d_parser.specs.Script.{IsDeclaration, IsScript}
+use Rattle.d_parser.proofs.Tokens.{present}
 
 abbrev Small : List Token → Type 0
 Small = token.HaveSmallNumbers

@@ -32,7 +32,7 @@ use Rattle.d_parser.specs.Words.{word_kind, type_of_words}
 use Rattle.d_parser.specs.Steps.Words.{run, after_run, only_integer, integer_type}
 use Rattle.d_parser.specs.{Marks.step_mark, Steps.Marks.level_of}
 use Rattle.d_parser.specs.Steps.Marks.{prefix_of, follow_kind, follow_at, is_at, same_mark, tail}
-use Rattle.d_parser.specs.Grammar.{Part, ◌⨟◌, token, IsToken, IsMark, IsOfLevel, level, IsWord}
+use Rattle.d_parser.specs.Grammar.{Part, ◌⨟◌, IsToken, IsMark, IsOfLevel, level, IsWord}
 use Rattle.d_parser.specs.Grammar.{IsMember, IsTarget, IsType, IsEnclosed, Spells, SpellsKeys}
 use Rattle.d_parser.specs.Grammar.{SpellsList, SpellsMore}
 use Rattle.d_parser.specs.Steps.Reading.{◌>>=◌, after_mark, if_plain, plain_word, plain_by, member}
@@ -46,6 +46,7 @@ use Rattle.d_parser.specs.Steps.Reading.{alternatives, cond_tail, binary, expr_o
 use Rattle.d_parser.proofs.Complete.{level_high, level_below, sign_there, join, join_more}
 use Rattle.d_parser.proofs.Runs.{run_joined}
 use Rattle.d_parser.proofs.Signs.{prefix_mark, prefix_mark_is, sign_of, sign_is}
+use Rattle.d_parser.proofs.Tokens.{token}
 
 -- what an answer meets, if there is one
 abbrev pub IfSome : {A : Type 0} → (A → Type 0) → Option A → Type 0

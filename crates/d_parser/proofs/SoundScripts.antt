@@ -15,8 +15,8 @@ use Rattle.d_parser.specs.Tree.{OfClause, ClauseTree, ItemTree, Declared, Probin
 use Rattle.d_parser.specs.Words.{word_kind, type_of_words}
 use Rattle.d_parser.specs.Steps.Words.{is_word, run, after_run}
 use Rattle.d_parser.specs.Steps.Marks.{is_at, tail}
-use Rattle.d_parser.specs.Grammar.{◌⨟◌, token, IsToken, IsMark, IsEnclosed, IsType}
-use Rattle.d_parser.specs.Script.{EachAfter, SeparatedBy, IsStmt, IsOptionalStmt, present, AreStmts}
+use Rattle.d_parser.specs.Grammar.{◌⨟◌, IsToken, IsMark, IsEnclosed, IsType}
+use Rattle.d_parser.specs.Script.{EachAfter, SeparatedBy, IsStmt, IsOptionalStmt, AreStmts}
 use Rattle.d_parser.specs.Script.{IsDescription, IsPredicate, IsClause, AreKeyTypes, IsDeclaration}
 use Rattle.d_parser.specs.Script.{IsItem, IsScript}
 use Rattle.d_parser.specs.Steps.Script.{description_of}
@@ -41,6 +41,7 @@ use Rattle.d_parser.proofs.Sound.{IfSome, then_sound, test_sound, weaken, after_
 use Rattle.d_parser.proofs.Sound.{KeysOf, ArgumentsOf, SignOf, keys_sound, arguments_sound}
 use Rattle.d_parser.proofs.Sound.{readers_sound}
 use Rattle.d_parser.proofs.Runs.{AreWords, are_words, run_joined}
+use Rattle.d_parser.proofs.Tokens.{token, present}
 
 -- ---- statements
 

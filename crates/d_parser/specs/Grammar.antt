@@ -21,14 +21,11 @@ abbrev pub ◌⨟◌ : Part → Part → Part
 abbrev pub Nothing : Part
 Nothing ts rest = ts ≡ rest
 
-abbrev pub token : TokenKind → (start stop line : ℕ) → Token
-token k start stop line = record { kind = k; start = start; stop = stop; line = line }
-
 -- a token of this kind, on this line
 pub record IsToken (k : TokenKind) (line : ℕ) (ts rest : List Token) : Type 0 where
   pub start : ℕ
   pub stop : ℕ
-  pub is : ts ≡ token k start stop line ∷ rest
+  pub is : ts ≡ record { kind = k; start = start; stop = stop; line = line } ∷ rest
 
 -- this mark, on any line
 pub record IsMark (mark : Mark) (ts rest : List Token) : Type 0 where

@@ -8,7 +8,7 @@ use Rattle.d_parser.specs.Tree.{Tree, StmtTree, Expression, Aggregation, Declara
 use Rattle.d_parser.specs.Tree.{OfThread, OfClause, ClauseTree, ItemTree, Declared, Probing}
 use Rattle.d_parser.specs.Grammar.{Part, ◌⨟◌, Nothing, IsToken, IsMark, IsEnclosed, IsWord, IsType}
 use Rattle.d_parser.specs.Grammar.{IsExpression, SpellsKeys, SpellsList}
-use Rattle.std.specs.List.{join_with_byte, filter_map}
+use Rattle.std.specs.{Str.byte, List.join_with_byte, List.filter_map}
 pub use Rattle.std.specs.{List.list_all, Char.is_ascii_digit}
 
 -- ---- lists
@@ -39,20 +39,13 @@ abbrev pub IsOptionalStmt : Option StmtTree → Part
 IsOptionalStmt None = Nothing
 IsOptionalStmt (Some s) = IsStmt s
 
--- the statements that are there
-abbrev pub present : List (Option StmtTree) → List StmtTree
-present optionals = filter_map (λ s. s) optionals
-
--- [ stmt ] { ";" [ stmt ] }
+-- [ stmt ] { ";" [ stmt ] }: the statements that are there
 abbrev pub AreStmts : List StmtTree → Part
 AreStmts stmts ts rest =
-    (optionals : List (Option StmtTree)) × (stmts ≡ present optionals)
+    (optionals : List (Option StmtTree)) × (stmts ≡ filter_map (λ s. s) optionals)
     × SeparatedBy Mark.Semicolon IsOptionalStmt optionals ts rest
 
 -- ---- clauses
-
-abbrev pub colon : ℕ
-colon = 58
 
 -- One run, not of digits alone, that gives the last fields; those missing before them are empty.
 pub record IsDescription (d : Description) (ts rest : List Token) : Type 0 where
@@ -62,8 +55,8 @@ pub record IsDescription (d : Description) (ts rest : List Token) : Type 0 where
   pub given : List (List ℕ)
   pub begins : IsToken (TokenKind.DescriptionRun run) line ts rest
   pub named : list_all is_ascii_digit run ≡ false
-  pub is : run ≡ join_with_byte colon given
-  pub apart : list_all (list_all (λ b. not (b == colon))) given ≡ true
+  pub is : run ≡ join_with_byte (byte ":") given
+  pub apart : list_all (list_all (λ b. not (b == byte ":"))) given ≡ true
   pub are : (d.provider ∷ d.«module» ∷ d.function ∷ d.name ∷ []) ≡ replicate missing [] ++ given
 
 -- [ "/" expr "/" ]

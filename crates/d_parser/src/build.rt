@@ -2,15 +2,13 @@
 
 ghost use Rattle.std.specs.Prelude.{◌≡◌, IfOk};
 ghost use Rattle.d_parser.specs.{Vocabulary.Constant};
-ghost use Rattle.d_parser.specs.Steps.Reading.{OnlyMemory};
 ghost use Rattle.d_parser.specs.Tree as spec;
 ghost use Rattle.d_parser.specs.Steps.Tree as steps;
 
-use crate::fault::ParseFault;
 use crate::operators::{AssignOperator, BinaryOperator, Step, UnaryOperator};
 use crate::tree::{Constant, Expr, IntegerType, Target, Variable};
 use d_lexer::{ByteString, Suffix};
-use std::alloc::Global;
+use std::alloc::{AllocError, Global};
 
 pub(crate) fn call(line: usize, function: ByteString, arguments: Vec<Expr>) -> Expr
     ensures { spec.tree_of result ≡ spec.Call line function (spec.trees_of arguments.items) }
@@ -35,17 +33,15 @@ pub(crate) fn read(target: Target) -> Expr
     Expr::Read(target)
 }
 
-fn boxed(alloc: Global, e: Expr) -> Result<Box<Expr>, ParseFault>
+fn boxed(alloc: Global, e: Expr) -> Result<Box<Expr>, AllocError>
     ensures ok { IfOk result (λ b. b.value ≡ e) }
-    ensures err { OnlyMemory result }
 {
     let boxed = Box::new(alloc, e)?;
     Ok(boxed)
 }
 
-fn boxed_two(alloc: Global, a: Expr, b: Expr) -> Result<(Box<Expr>, Box<Expr>), ParseFault>
+fn boxed_two(alloc: Global, a: Expr, b: Expr) -> Result<(Box<Expr>, Box<Expr>), AllocError>
     ensures ok { IfOk result (λ both. (both.0.value ≡ a) × (both.1.value ≡ b)) }
-    ensures err { OnlyMemory result }
 {
     let a = boxed(alloc, a);
     let (a, b) = a.map(|a| (a, b))?;
@@ -68,10 +64,9 @@ pub(crate) fn assign(
     operator: AssignOperator,
     target: Target,
     value: Expr,
-) -> Result<Expr, ParseFault>
+) -> Result<Expr, AllocError>
     ensures ok { IfOk result (λ e. spec.tree_of e ≡ spec.Assign operator (steps.target_of target).0
         (steps.target_of target).1 (spec.tree_of value)) }
-    ensures err { OnlyMemory result }
 {
     let value = boxed(alloc, value)?;
     Ok(assignment(operator, target, value))
@@ -114,10 +109,9 @@ pub(crate) fn unary(
     line: usize,
     operator: UnaryOperator,
     operand: Expr,
-) -> Result<Expr, ParseFault>
+) -> Result<Expr, AllocError>
     ensures ok { IfOk result
         (λ e. spec.tree_of e ≡ spec.Unary line operator (spec.tree_of operand)) }
-    ensures err { OnlyMemory result }
 {
     let operand = boxed(alloc, operand)?;
     Ok(Expr::Unary {
@@ -132,9 +126,8 @@ pub(crate) fn cast(
     line: usize,
     to: IntegerType,
     operand: Expr,
-) -> Result<Expr, ParseFault>
+) -> Result<Expr, AllocError>
     ensures ok { IfOk result (λ e. spec.tree_of e ≡ spec.Cast line to (spec.tree_of operand)) }
-    ensures err { OnlyMemory result }
 {
     let operand = boxed(alloc, operand)?;
     Ok(Expr::Cast { line, to, operand })
@@ -145,10 +138,9 @@ pub(crate) fn binary(
     operator: BinaryOperator,
     left: Expr,
     right: Expr,
-) -> Result<Expr, ParseFault>
+) -> Result<Expr, AllocError>
     ensures ok { IfOk result
         (λ e. spec.tree_of e ≡ spec.Binary operator (spec.tree_of left) (spec.tree_of right)) }
-    ensures err { OnlyMemory result }
 {
     let (left, right) = boxed_two(alloc, left, right)?;
     Ok(Expr::Binary {
@@ -163,10 +155,9 @@ pub(crate) fn choice(
     test: Expr,
     first: Expr,
     second: Expr,
-) -> Result<Expr, ParseFault>
+) -> Result<Expr, AllocError>
     ensures ok { IfOk result (λ e. spec.tree_of e
         ≡ spec.Choice (spec.tree_of test) (spec.tree_of first) (spec.tree_of second)) }
-    ensures err { OnlyMemory result }
 {
     let sides = boxed_two(alloc, first, second);
     let (test, (first, second)) = sides.map(|sides| (test, sides))?;

@@ -3,7 +3,6 @@
 ghost use Rattle.std.specs.Prelude.{◌≡◌, ◌++◌, ◌∷◌, [], IfOk, Some};
 ghost use Rattle.d_parser.specs.Tree.{clause_of, predicate_of, stmts_of};
 ghost use Rattle.d_parser.specs.Reading.{Gives};
-ghost use Rattle.d_parser.specs.Steps.Reading.{OnlyMemory};
 ghost use Rattle.d_parser.specs.Steps.ReadingScripts as spec;
 
 use crate::description::description_of;
@@ -14,7 +13,7 @@ use crate::names::{after_mark, syntax_at};
 use crate::statement::statements;
 use crate::tree::{Clause, Description, Expr, Stmt};
 use d_lexer::{Mark, Token, TokenKind};
-use std::alloc::Global;
+use std::alloc::{AllocError, Global};
 
 #[tactic(auto, unfolding(crate::specs::Steps::ReadingScripts::description))]
 fn description(alloc: Global, tokens: &[Token]) -> Result<(Description, &[Token]), ParseFault>
@@ -33,9 +32,8 @@ fn description(alloc: Global, tokens: &[Token]) -> Result<(Description, &[Token]
 }
 
 /// Adds a description at the end.
-fn put(all: &mut Vec<Description>, next: Description) -> Result<(), ParseFault>
+fn put(all: &mut Vec<Description>, next: Description) -> Result<(), AllocError>
     ensures ok { IfOk result (λ _. all.new.items ≡ all.old.items ++ next ∷ []) }
-    ensures err { OnlyMemory result }
 {
     all.push(next)?;
     Ok(())

@@ -270,7 +270,7 @@ fn unary_at_mark<'a>(
     }
 }
 
-/// A unary expression, or if the level allows it an assignment.
+/// A unary expression or, if the level allows it, an assignment.
 #[cycle(expression)]
 #[tactic(auto, unfolding(crate::specs::Steps::Reading::unary))]
 fn unary<'a>(

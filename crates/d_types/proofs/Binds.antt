@@ -1,11 +1,10 @@
 -- A part's fault is the whole's.
 use Rattle.std.proofs.Common.{◌≡◌, Result, Ok, Err, refl}
 use Rattle.std.proofs.lemmas.Result.{err_from_is_err_and}
-use Rattle.std.specs.Prelude.{IsErrAnd, IfOk, OnOk}
+use Rattle.std.specs.Prelude.{IsErrAnd}
 use Rattle.d_types.specs.declared.fault.TypeFault.{TypeFault}
 use Rattle.d_types.specs.declared.fault.TypeFault.TheVariants as f
 use Rattle.d_types.specs.Steps.Faults.{◌>>=◌, Fault, Fails, Gives}
-use Rattle.d_types.specs.Steps.Faults.{OnlyMemory}
 
 pub fails_bind : {A B : Type 0} (e : TypeFault) (r : Result A Fault) (go : A → Result B Fault) → Fails e r → Fails e (r >>= go)
 fails_bind (f.GlobalAssignment name line) r go h = rw h refl
@@ -30,7 +29,6 @@ pub spent : {X B : Type 0} (view : X → B) (result : Result X TypeFault) (r : R
 spent view result r is = let p = err_from_is_err_and result is in rw (p.1, p.2) tt
 
 -- where the index and the table of a call that fails only if memory runs out are the result
-pub passed_on : {P T : Type 0} (result : Result P TypeFault) (index : P) (table new : T) (r : Result (P × T) Fault)
-    → r ≡ Ok (index, new) → IfOk result (λ p. p ≡ index) → OnOk result (table ≡ new) → OnlyMemory result → Gives (λ p. (p, table)) result r
-passed_on (Ok p) index table new r is here there memory = rw (here, there) is
-passed_on (Err e) index table new r is here there memory = rw memory tt
+pub passed_on : {P T : Type 0} (p index : P) (table new : T) (r : Result (P × T) Fault)
+    → r ≡ Ok (index, new) → p ≡ index → table ≡ new → Gives {X = P} (λ q. (q, table)) (Ok p) r
+passed_on p index table new r is here there = rw (here, there) is

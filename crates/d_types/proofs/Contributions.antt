@@ -1,52 +1,55 @@
 -- How many contributions are made.
 use Rattle.std.proofs.Common.{ℕ, zero, suc, ◌+◌, ◌*◌, ◌^◌, ◌≤◌, List, [], ◌∷◌, length, Option, Some}
-use Rattle.std.proofs.Common.{None, arith}
+use Rattle.std.proofs.Common.{None, arith, length-append}
 use Rattle.std.proofs.Math.Nat.{add-mul, mul-add}
 use Rattle.std.proofs.lemmas.Nat.{mul-le}
+use Rattle.aggregations.specs.Table.{contribution}
 use Rattle.d_parser.specs.Sizes.{in_all}
 use Rattle.d_types.specs.declared.effect.Effect.{Effect}
 use Rattle.d_types.specs.declared.effect.Effect.TheVariants as ef
 use Rattle.d_types.specs.Typed.{ActionOf, ClauseMeant, ScriptMeant}
 use Rattle.d_types.specs.Storage.{Variables}
-use Rattle.d_types.specs.Expressions.{Outcome, Has, Faults, number_outcome}
-use Rattle.d_types.specs.Clauses.{Evaluation, Ran, effect_by, effect_then, statements_by}
-use Rattle.d_types.specs.Clauses.{where_true, where_predicate, contributions_in, run_by}
+use Rattle.d_types.specs.Expressions.{Outcome, Has, Faults, number_outcome, at_zero}
+use Rattle.d_types.specs.Clauses.{Evaluation, Made, and_then, effect_by, effect_result, go_on}
+use Rattle.d_types.specs.Clauses.{nothing_made, run_by, statements_made}
 use Rattle.d_types.specs.Scripts.{IsMeant}
 use Rattle.d_types.specs.Sizes.{description_count, statement_count, most_runs, HasAtMost}
 use Rattle.d_types.proofs.Sizes.{typed_script_is_small}
 
-one_each : (all : List Effect) → length (contributions_in all) ≤ length all
-one_each [] = omega arith
-one_each (ef.Nothing ∷ rest) = let less = one_each rest in omega (arith, less)
-one_each (ef.Says text ∷ rest) = let less = one_each rest in omega (arith, less)
-one_each (ef.Adds index key z ∷ rest) = let less = one_each rest in omega (arith, less)
-one_each (ef.Exits status ∷ rest) = let less = one_each rest in omega (arith, less)
+-- one effect makes one contribution at most
+one_more : (e : Effect) (vars : Variables) (before : Made) → length (and_then before (effect_result e vars)).contributions ≤ length before.contributions + 1
+one_more ef.Nothing vars before = let long = length-append before.contributions [] in omega (arith, long)
+one_more (ef.Says text) vars before = let long = length-append before.contributions [] in omega (arith, long)
+one_more (ef.Exits status) vars before = let long = length-append before.contributions [] in omega (arith, long)
+one_more (ef.Adds index key z) vars before = let long = length-append before.contributions (contribution index key z ∷ []) in omega (arith, long)
+
+went_few : {A : Type 0} (n : ℕ) (line : List ℕ) (before : Made) (o : Outcome A) (go : A → Variables → Made)
+    → length before.contributions ≤ n → ((x : A) (vars : Variables) → length (go x vars).contributions ≤ n) → length (go_on line before o go).contributions ≤ n
+went_few n line before (Has x vars) go some few = few x vars
+went_few n line before (Faults vars) go some few = some
 
 module _ {E Es : Type 0} (by : Evaluation E Es) where
-  followed_few : (n : ℕ) (o : Outcome Effect) (go : Variables → Ran) → ((vars : Variables) → length (go vars).effects ≤ n) → length (effect_then o go).effects ≤ suc n
-  followed_few n (Has effect vars) go few = let rest = few vars in omega (arith, rest)
-  followed_few n (Faults vars) go few = omega arith
+  statements_few : (line : List ℕ) (all : List (ActionOf E Es)) (before : Made) → length (statements_made by line all before).contributions ≤ length before.contributions + length all
+  statements_few line [] before = omega arith
+  statements_few line (a ∷ rest) before =
+      went_few (length before.contributions + length (a ∷ rest)) line before (effect_by by a before.variables) _ (omega arith)
+      (λ effect vars.
+      let more = one_more effect vars before in
+      let few = statements_few line rest (and_then before (effect_result effect vars)) in
+      omega (arith, more, few))
 
-  statements_few : (all : List (ActionOf E Es)) (vars : Variables) → length (statements_by by all vars).effects ≤ length all
-  statements_few [] vars = omega arith
-  statements_few (a ∷ rest) vars = followed_few (length rest) (effect_by by a vars) (statements_by by rest) (statements_few rest)
-
-  where_true_few : (n : ℕ) (o : Outcome ℕ) (go : Variables → Ran) → ((vars : Variables) → length (go vars).effects ≤ n) → length (where_true o go).effects ≤ n
-  where_true_few n (Has zero vars) go few = omega arith
-  where_true_few n (Has (suc w) vars) go few = few vars
-  where_true_few n (Faults vars) go few = omega arith
-
-  guarded_few : (predicate : Option E) (all : List (ActionOf E Es)) (vars : Variables) → length (where_predicate by predicate (statements_by by all) vars).effects ≤ length all
-  guarded_few None all vars = statements_few all vars
-  guarded_few (Some a) all vars = where_true_few (length all) (number_outcome (by.value a vars)) (statements_by by all) (statements_few all)
+  guarded_few : (word : ℕ) (vars : Variables) (made : Made) (n : ℕ) → length made.contributions ≤ n → length (at_zero word (nothing_made vars) made).contributions ≤ n
+  guarded_few zero vars made n few = omega arith
+  guarded_few (suc w) vars made n few = few
 
   -- whatever evaluates the expressions
   pub run_is_few : (line : List ℕ) (predicate : Option E) (all : List (ActionOf E Es)) (vars : Variables) → length (run_by by line predicate all vars).contributions ≤ length all
-  run_is_few line predicate all vars =
-      let ran : Ran = where_predicate by predicate (statements_by by all) vars in
-      let some = one_each ran.effects in
-      let few = guarded_few predicate all vars in
-      omega (arith, some, few)
+  run_is_few line None all vars = let few = statements_few line all (nothing_made vars) in omega (arith, few)
+  run_is_few line (Some a) all vars =
+      went_few (length all) line (nothing_made vars) (number_outcome (by.value a vars)) _ (omega arith)
+      (λ word late.
+      let few = statements_few line all (nothing_made late) in
+      guarded_few word late (statements_made by line all (nothing_made late)) (length all) (omega (arith, few)))
 
 -- each product is below that of the sums
 products : (a b c d : ℕ) → a * b + c * d ≤ (a + c) * (b + d)

@@ -8,18 +8,26 @@ use Rattle.d_types.specs.declared.effect.Effect.TheVariants as ef
 use Rattle.d_types.specs.Typed.{Typed, Typeds, end, more, type_of, Action, Evaluate, Trace, Print}
 use Rattle.d_types.specs.Typed.{Exit, Aggregate, ClauseMeant}
 use Rattle.d_types.specs.Storage.{Variables}
-use Rattle.d_types.specs.Expressions.{Outcome, Has, Faults, with, number_outcome, eval, keys_of}
-use Rattle.d_types.specs.Clauses.{values_of, Ran, effect_then}
-use Rattle.d_types.specs.Clauses.{where_true, by_trees, where_predicate, run_of}
+use Rattle.d_types.specs.Expressions.{Outcome, Has, Faults, with, number_outcome, at_zero}
+use Rattle.d_types.specs.Expressions.{eval, keys_of}
+use Rattle.d_types.specs.Clauses.{Made, and_then, by_trees, effect_result, fault_line, go_on}
+use Rattle.d_types.specs.Clauses.{nothing_made, run_by, run_of, statements_made, values_of}
 use Rattle.d_types.specs.Printing.{trace_line, printf_text}
 use Rattle.d_types.specs.Held.{IsOf, HasTypedBuiltIns, Slots, AreTyped, EndsTyped, IsConsistent}
 use Rattle.d_types.specs.Held.{AreConsistent}
 use Rattle.d_types.specs.Wholes.{EachIs, AnyIs, ActionIs, ActionsAre, ClauseIs}
 use Rattle.d_types.proofs.Holding.{one, eval_is, keys_are}
-use Rattle.d_types.proofs.TreeRuns.{argument_value, effect_of, statements_of}
+use Rattle.d_types.proofs.TreeRuns.{argument_value, effect_of}
+
+-- what an effect makes leaves the variables
+pub effect_leaves : (slots : Slots) (e : Effect) (vars : Variables) → AreTyped slots vars → AreTyped slots (effect_result e vars).variables
+effect_leaves slots ef.Nothing vars good = good
+effect_leaves slots (ef.Says text) vars good = good
+effect_leaves slots (ef.Exits status) vars good = good
+effect_leaves slots (ef.Adds index key z) vars good = good
 
 module _ (slots : Slots) (f : Firing) (fit : HasTypedBuiltIns f) where
-  abbrev Kept : {A : Type 0} → Outcome A → Type 0
+  abbrev pub Kept : {A : Type 0} → Outcome A → Type 0
   Kept o = EndsTyped slots (λ x. Unit {0}) o
 
   all_are : (keys : Typeds) → EachIs (IsConsistent slots) keys → AreConsistent slots keys
@@ -51,7 +59,7 @@ module _ (slots : Slots) (f : Firing) (fit : HasTypedBuiltIns f) where
   given_kept (Some a) vars is good =
       one slots (λ y. Unit {0}) (λ y. Unit {0}) (number_outcome (eval f a vars)) (λ word. Has (cast_signed w64 word)) (number_kept a vars is good) (λ w late any well. (tt, well))
 
-  effect_kept : (a : Action) (vars : Variables) → ActionIs (IsConsistent slots) a → AreTyped slots vars → Kept (effect_of f a vars)
+  pub effect_kept : (a : Action) (vars : Variables) → ActionIs (IsConsistent slots) a → AreTyped slots vars → Kept (effect_of f a vars)
   effect_kept (Evaluate a) vars is good = later a (λ x. Has ef.Nothing) vars is good (λ x late well. (tt, well))
   effect_kept (Trace a) vars is good = later a (λ x. Has (ef.Says (trace_line (type_of a) x))) vars is good (λ x late well. (tt, well))
   effect_kept (Print format all) vars is good =
@@ -66,28 +74,29 @@ module _ (slots : Slots) (f : Firing) (fit : HasTypedBuiltIns f) where
       (λ key late any well. one slots (λ y. Unit {0}) (λ y. Unit {0}) (argument_value f argument late) (λ z. Has (ef.Adds index key z)) (given_kept argument late is.1 well)
       (λ z last every fine. (tt, fine)))
 
-  followed_kept : (o : Outcome Effect) (go : Variables → Ran) → Kept o → ((vars : Variables) → AreTyped slots vars → AreTyped slots (go vars).variables) →
-      AreTyped slots (effect_then o go).variables
-  followed_kept (Has effect vars) go good rest = rest vars good.1
-  followed_kept (Faults vars) go good rest = good
+  went_kept : {A : Type 0} (line : List ℕ) (before : Made) (o : Outcome A) (go : A → Variables → Made) → Kept o → ((x : A) (vars : Variables) → AreTyped slots vars → AreTyped slots (go x vars).variables) →
+      AreTyped slots (go_on line before o go).variables
+  went_kept line before (Has x vars) go good rest = rest x vars good.1
+  went_kept line before (Faults vars) go good rest = good
 
-  statements_kept : (all : List Action) (vars : Variables) → ActionsAre (IsConsistent slots) all → AreTyped slots vars → AreTyped slots (statements_of f all vars).variables
-  statements_kept [] vars is good = good
-  statements_kept (a ∷ rest) vars is good =
-      followed_kept (effect_of f a vars) (statements_of f rest) (effect_kept a vars is.0 good) (λ late well. statements_kept rest late is.1 well)
+  statements_kept : (line : List ℕ) (all : List Action) (before : Made) → ActionsAre (IsConsistent slots) all → AreTyped slots before.variables →
+      AreTyped slots (statements_made (by_trees f) line all before).variables
+  statements_kept line [] before is good = good
+  statements_kept line (a ∷ rest) before is good =
+      went_kept line before (effect_of f a before.variables) _ (effect_kept a before.variables is.0 good)
+      (λ effect late well. statements_kept line rest (and_then before (effect_result effect late)) is.1 (effect_leaves slots effect late well))
 
-  where_true_kept : (o : Outcome ℕ) (go : Variables → Ran) → Kept o → ((vars : Variables) → AreTyped slots vars → AreTyped slots (go vars).variables) →
-      AreTyped slots (where_true o go).variables
-  where_true_kept (Has zero vars) go good rest = good.1
-  where_true_kept (Has (suc n) vars) go good rest = rest vars good.1
-  where_true_kept (Faults vars) go good rest = good
+  guarded_kept : (word : ℕ) (vars : Variables) (made : Made) → AreTyped slots vars → AreTyped slots made.variables → AreTyped slots (at_zero word (nothing_made vars) made).variables
+  guarded_kept zero vars made good well = good
+  guarded_kept (suc n) vars made good well = well
 
-  guarded_kept : (predicate : Option Typed) (go : Variables → Ran) (vars : Variables) → AnyIs (IsConsistent slots) predicate → AreTyped slots vars →
-      ((late : Variables) → AreTyped slots late → AreTyped slots (go late).variables) → AreTyped slots (where_predicate (by_trees f) predicate go vars).variables
-  guarded_kept None go vars is good rest = rest vars good
-  guarded_kept (Some a) go vars is good rest = where_true_kept (number_outcome (eval f a vars)) go (number_kept a vars is good) rest
+  by_kept : (line : List ℕ) (predicate : Option Typed) (all : List Action) (vars : Variables) → AnyIs (IsConsistent slots) predicate → ActionsAre (IsConsistent slots) all → AreTyped slots vars →
+      AreTyped slots (run_by (by_trees f) line predicate all vars).variables
+  by_kept line None all vars is are good = statements_kept line all (nothing_made vars) are good
+  by_kept line (Some a) all vars is are good =
+      went_kept line (nothing_made vars) (number_outcome (eval f a vars)) _ (number_kept a vars is good)
+      (λ word late well. guarded_kept word late (statements_made (by_trees f) line all (nothing_made late)) well (statements_kept line all (nothing_made late) are well))
 
   pub run_kept : (index : ℕ) (clause : ClauseMeant) (vars : Variables) → ClauseIs (IsConsistent slots) clause → AreTyped slots vars →
       AreTyped slots (run_of f index clause vars).variables
-  run_kept index clause vars is good =
-      guarded_kept clause.predicate (statements_of f clause.statements) vars is.0 good (λ late well. statements_kept clause.statements late is.1 well)
+  run_kept index clause vars is good = by_kept (fault_line f.number index) clause.predicate clause.statements vars is.0 is.1 good

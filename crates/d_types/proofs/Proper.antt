@@ -74,8 +74,8 @@ taken (fn.Lquantize r) None h = h
 taken (fn.Lquantize r) (Some x) h = h
 
 abbrev counts : Aggregating → Bool
-counts ag.Count = true
-counts g = false
+counts (ag.Named f) = is_count f
+counts ag.Lquantize = false
 
 none_left : (n : ℕ) → nat_le (1 + n) 0 ≡ true → ⊥
 none_left n e = grind (arith, nat_tests)
@@ -86,18 +86,20 @@ some_integer ty.Text e = cc
 
 -- arguments that a function takes begin with an integer, or there are none
 first_taken : (g : Aggregating) (xs : Typeds) → arguments_fit g xs ≡ true → Takes (counts g) (first xs)
-first_taken ag.Count end e = tt
-first_taken ag.Count (more x rest) e = none_left (count rest) (both_true _ _ e).0
-first_taken ag.Sum end e = cc
-first_taken ag.Sum (more x rest) e = some_integer (type_of x) (both_true _ _ (both_true _ _ e).1).0
-first_taken ag.Min end e = cc
-first_taken ag.Min (more x rest) e = some_integer (type_of x) (both_true _ _ (both_true _ _ e).1).0
-first_taken ag.Max end e = cc
-first_taken ag.Max (more x rest) e = some_integer (type_of x) (both_true _ _ (both_true _ _ e).1).0
-first_taken ag.Avg end e = cc
-first_taken ag.Avg (more x rest) e = some_integer (type_of x) (both_true _ _ (both_true _ _ e).1).0
-first_taken ag.Quantize end e = cc
-first_taken ag.Quantize (more x rest) e = some_integer (type_of x) (both_true _ _ (both_true _ _ e).1).0
+first_taken (ag.Named fn.Count) end e = tt
+first_taken (ag.Named fn.Count) (more x rest) e = none_left (count rest) (both_true _ _ e).0
+first_taken (ag.Named fn.Sum) end e = cc
+first_taken (ag.Named fn.Sum) (more x rest) e = some_integer (type_of x) (both_true _ _ (both_true _ _ e).1).0
+first_taken (ag.Named fn.Min) end e = cc
+first_taken (ag.Named fn.Min) (more x rest) e = some_integer (type_of x) (both_true _ _ (both_true _ _ e).1).0
+first_taken (ag.Named fn.Max) end e = cc
+first_taken (ag.Named fn.Max) (more x rest) e = some_integer (type_of x) (both_true _ _ (both_true _ _ e).1).0
+first_taken (ag.Named fn.Avg) end e = cc
+first_taken (ag.Named fn.Avg) (more x rest) e = some_integer (type_of x) (both_true _ _ (both_true _ _ e).1).0
+first_taken (ag.Named fn.Quantize) end e = cc
+first_taken (ag.Named fn.Quantize) (more x rest) e = some_integer (type_of x) (both_true _ _ (both_true _ _ e).1).0
+first_taken (ag.Named (fn.Lquantize r)) end e = cc
+first_taken (ag.Named (fn.Lquantize r)) (more x rest) e = some_integer (type_of x) (both_true _ _ (both_true _ _ e).1).0
 first_taken ag.Lquantize end e = cc
 first_taken ag.Lquantize (more x rest) e = some_integer (type_of x) (both_true _ _ (both_true _ _ e).1).0
 
@@ -123,12 +125,7 @@ some_count : (g h : AggFn) → Some g ≡ Some h → is_count h ≡ is_count g
 some_count g h e = let same : g ≡ h = cc in ap is_count (sym same)
 
 counted : (g : Aggregating) (args : Trees) (h : AggFn) → function g args ≡ Some h → is_count h ≡ counts g
-counted ag.Count args h e = some_count fn.Count h e
-counted ag.Sum args h e = some_count fn.Sum h e
-counted ag.Min args h e = some_count fn.Min h e
-counted ag.Max args h e = some_count fn.Max h e
-counted ag.Avg args h e = some_count fn.Avg h e
-counted ag.Quantize args h e = some_count fn.Quantize h e
+counted (ag.Named f) args h e = some_count f h e
 counted ag.Lquantize args h e = linear args h e
 
 -- the function of a statement takes the first of its arguments

@@ -1,6 +1,6 @@
 -- Pieces of a format are read as they are spelled.
 use Rattle.std.proofs.Common.{◌≡◌, ℕ, zero, suc, ◌+◌, ◌*◌, ◌-◌, ◌^◌, ◌≤◌, ◌<◌, ◌==◌, ◌||◌, inl, inr}
-use Rattle.std.proofs.Common.{List, [], ◌∷◌, ◌++◌, get_or, Bool, true, false, if◌then◌else◌, Option}
+use Rattle.std.proofs.Common.{List, [], ◌∷◌, ◌++◌, get_or, length, slice_index_or, ◌⊎◌, Bool, true, false, if◌then◌else◌, Option}
 use Rattle.std.proofs.Common.{Some, decimal, refl, sym, ap, ◌∙◌, subst, append_assoc, append-nil}
 use Rattle.std.proofs.Common.{arith, eqb-true, ne_eqb, le-leb}
 use Rattle.std.proofs.Math.Bool.{or-true, or-false}
@@ -17,12 +17,40 @@ use Rattle.d_types.specs.declared.format.Place.{Place}
 use Rattle.d_types.specs.declared.format.Place.TheVariants as at
 use Rattle.d_parser.specs.Script.{is_ascii_digit}
 use Rattle.d_types.specs.Steps.Formats.{no_flags, pieces_from, pieces}
-use Rattle.std.specs.{Prelude.codes, List.AllByRecursion, Char.char_set_contains}
-use Rattle.d_types.specs.Spelling.{IsOneOf, width_text, lengths, letters}
+use Rattle.std.specs.{Prelude.codes, Char.char_set_contains}
+use Rattle.std.specs.List.{AllByRecursion, AllZip, Contains, concat}
+use Rattle.d_types.specs.Spelling.{width_text, lengths, letters}
 use Rattle.d_types.specs.Spelling.{IsConversion, SpellsPiece, SpellsFormat}
+
+-- ---- what a list has
+
+abbrev pub IsOneOf : {A : Type 0} → A → List A → Type 0
+IsOneOf x [] = ⊥
+IsOneOf x (y ∷ others) = (x ≡ y) ⊎ IsOneOf x others
+
+pub one_of : {A : Type 0} (xs : List A) (x : A) → Contains xs x → IsOneOf x xs
+one_of {A = A} xs x h = found xs h.0 h.1 h.2
+  where
+    found : (ys : List A) (k : ℕ) → k < length ys → slice_index_or ys k x ≡ x → IsOneOf x ys
+    found [] k small e = absurd (omega (arith, small))
+    found (y ∷ ys) zero small e = inl (sym e)
+    found (y ∷ ys) (suc k) small e = inr (found ys k (omega (arith, small)) e)
+
+pub has : {A : Type 0} (xs : List A) (x : A) → IsOneOf x xs → Contains xs x
+has [] x none = absurd none
+has (y ∷ ys) x (inl e) = (0, omega arith, sym e)
+has (y ∷ ys) x (inr h) = let later = has ys x h in (suc later.0, omega (arith, later.1), later.2)
 
 abbrev pub AreFlags : List ℕ → Type 0
 AreFlags flags = AllByRecursion (λ f. IsOneOf f (codes "-0")) flags
+
+pub are_flags : (flags : List ℕ) → AllByRecursion (Contains (codes "-0")) flags → AreFlags flags
+are_flags [] h = tt
+are_flags (f ∷ flags) h = (one_of (codes "-0") f h.0, are_flags flags h.1)
+
+pub flags_are : (flags : List ℕ) → AreFlags flags → AllByRecursion (Contains (codes "-0")) flags
+flags_are [] h = tt
+flags_are (f ∷ flags) h = (has (codes "-0") f h.0, flags_are flags h.1)
 
 -- ---- the digits of a width
 
@@ -188,10 +216,28 @@ opened_read done (b ∷ flags) size rest w l k all small sized lettered =
 
 -- ---- formats
 
+-- the pieces in turn, each before what those after it spell
+abbrev pub SpellInTurn : List Piece → List ℕ → Type 0
+SpellInTurn [] format = format ≡ []
+SpellInTurn (p ∷ ps) format =
+    (text : List ℕ) × (rest : List ℕ) × SpellsPiece p text × SpellInTurn ps rest × (format ≡ text ++ rest)
+
+in_turn : (ps : List Piece) (texts : List (List ℕ)) (format : List ℕ) → AllZip SpellsPiece ps texts → format ≡ concat texts → SpellInTurn ps format
+in_turn [] [] format h is = is
+in_turn [] (text ∷ texts) format h is = absurd h
+in_turn (p ∷ ps) [] format h is = absurd h
+in_turn (p ∷ ps) (text ∷ texts) format h is = (text, concat texts, h.0, in_turn ps texts (concat texts) h.1 refl, is)
+
+pub spell_format : (ps : List Piece) (format : List ℕ) → SpellInTurn ps format → SpellsFormat ps format
+spell_format [] format h = ([], tt, h)
+spell_format (p ∷ ps) format h =
+    let later = spell_format ps h.1 h.3 in
+    (h.0 ∷ later.0, (h.2, later.1), h.4 ∙ ap (λ rest. h.0 ++ rest) later.2)
+
 conversion_read : (done : List Piece) (c : Conversion) (text rest : List ℕ) → IsConversion c text → Reads done at.Outside text (piece.Argument c) rest
 conversion_read done c text rest h =
     let same : with_both h.0 c.width c.letter ≡ piece.Argument c = rw (or-false (char_set_contains h.0 45), or-false (char_set_contains h.0 48), ← h.4, ← h.5) refl in
-    rw h.9 (opened_read done h.0 h.1 rest c.width h.2 c.letter h.3 h.6 h.7 h.8 ∙ ap (λ p. pieces_from (done ++ p ∷ []) at.Outside rest) same)
+    rw h.9 (opened_read done h.0 h.1 rest c.width h.2 c.letter (are_flags h.0 h.3) h.6 (one_of lengths h.1 h.7) (one_of (letters c.letter) h.2 h.8) ∙ ap (λ p. pieces_from (done ++ p ∷ []) at.Outside rest) same)
 
 byte_read : (done : List Piece) (b : ℕ) (rest : List ℕ) (t : Bool) → (b == 37) ≡ t → Reads done at.Outside (if t then 37 ∷ 37 ∷ [] else b ∷ []) (piece.Byte b) rest
 byte_read done b rest true e = rw (eqb-true b 37 e) refl
@@ -201,13 +247,13 @@ piece_read : (done : List Piece) (p : Piece) (text rest : List ℕ) → SpellsPi
 piece_read done (piece.Byte b) text rest h = rw h (byte_read done b rest (b == 37) refl)
 piece_read done (piece.Argument c) text rest h = conversion_read done c text rest h
 
-all_read : (done ps : List Piece) (format : List ℕ) → SpellsFormat ps format → pieces_from done at.Outside format ≡ Some (done ++ ps)
+all_read : (done ps : List Piece) (format : List ℕ) → SpellInTurn ps format → pieces_from done at.Outside format ≡ Some (done ++ ps)
 all_read done [] format h = rw (h, append-nil done) refl
 all_read done (p ∷ ps) format h =
     rw h.4 (piece_read done p h.0 h.1 h.2 ∙ all_read (done ++ p ∷ []) ps h.1 h.3 ∙ ap (λ all. Some all) (append_assoc done (p ∷ []) ps))
 
 pub spelled_is_read : (format : List ℕ) (ps : List Piece) → SpellsFormat ps format → pieces format ≡ Some ps
-spelled_is_read format ps h = all_read [] ps format h
+spelled_is_read format ps h = all_read [] ps format (in_turn ps h.0 format h.1 h.2)
 
 pub one_spelling : (format : List ℕ) (ps qs : List Piece) → SpellsFormat ps format → SpellsFormat qs format → ps ≡ qs
 one_spelling format ps qs g h =

@@ -19,12 +19,12 @@ use Rattle.d_parser.specs.Script.{is_ascii_digit}
 use Rattle.d_types.specs.Steps.Formats.{at_width, at_flags, no_flags, turn, with_piece}
 use Rattle.d_types.specs.Steps.Formats.{is_outside, pieces_at_end, option_then, pieces_from, pieces}
 use Rattle.std.specs.Char.{char_set_contains}
-use Rattle.d_types.specs.Spelling.{IsOneOf, width_text, lengths, letters}
+use Rattle.d_types.specs.Spelling.{width_text, lengths, letters}
 use Rattle.d_types.specs.Spelling.{SpellsPiece}
 use Rattle.d_types.specs.Spelling.{SpellsFormat}
 use Rattle.d_types.proofs.Bounds.{both_true}
-use Rattle.d_types.proofs.Spelled.{AreFlags, AllDecimal, value_after, numerals, not_less, argument}
-use Rattle.d_types.proofs.Spelled.{with_width}
+use Rattle.d_types.proofs.Spelled.{IsOneOf, has, AreFlags, flags_are, AllDecimal, value_after, numerals, not_less, argument}
+use Rattle.d_types.proofs.Spelled.{with_width, SpellInTurn, spell_format}
 
 -- ---- tests
 
@@ -240,12 +240,12 @@ percent_piece p text (inr h) =
       h.0,
       h.5.0,
       h.5.1,
-      h.3,
+      flags_are h.0 h.3,
       or-false (char_set_contains h.0 45),
       or-false (char_set_contains h.0 48),
       h.4,
-      h.5.3,
-      h.5.4,
+      has lengths h.5.0 h.5.3,
+      has (letters h.5.2) h.5.1 h.5.4,
       ap (λ rest. 37 ∷ rest) (h.6 ∙ ap (λ tail. h.0 ++ (width_text h.1 ++ tail)) h.5.6),
     )
 
@@ -270,9 +270,9 @@ abbrev From : Place → List Piece → List ℕ → Type 0
 From index ps rest =
     ((index ≡ at.Outside) × (ps ≡ []) × (rest ≡ []))
     ⊎ ((p : Piece) × (others : List Piece) × (text : List ℕ) × (later : List ℕ)
-    × (ps ≡ p ∷ others) × (rest ≡ text ++ later) × Ends index p text × SpellsFormat others later)
+    × (ps ≡ p ∷ others) × (rest ≡ text ++ later) × Ends index p text × SpellInTurn others later)
 
-from_outside : (ps : List Piece) (rest : List ℕ) → From at.Outside ps rest → SpellsFormat ps rest
+from_outside : (ps : List Piece) (rest : List ℕ) → From at.Outside ps rest → SpellInTurn ps rest
 from_outside ps rest (inl h) = rw h.1 h.2
 from_outside ps rest (inr h) = rw h.4 (h.2, h.3, h.6, h.7, h.5)
 
@@ -320,4 +320,4 @@ later done index (b ∷ bs) ps fine h =
     further done index b bs ps t.0.0 t.0.1 s (later (with_piece done t.0.1) t.0.0 bs ps (fine_after index b t.0.0 t.0.1 s) t.2)
 
 pub read_is_spelled : (format : List ℕ) (ps : List Piece) → pieces format ≡ Some ps → SpellsFormat ps format
-read_is_spelled format ps h = let r = later [] at.Outside format ps tt h in rw r.1 (from_outside r.0 format r.2)
+read_is_spelled format ps h = let r = later [] at.Outside format ps tt h in rw r.1 (spell_format r.0 format (from_outside r.0 format r.2))

@@ -35,12 +35,7 @@ lquantize args = None
 
 -- a function with its bounds, where they are in range
 abbrev pub function : Aggregating → Trees → Option AggFn
-function Aggregating.Count args = Some AggFn.Count
-function Aggregating.Sum args = Some AggFn.Sum
-function Aggregating.Min args = Some AggFn.Min
-function Aggregating.Max args = Some AggFn.Max
-function Aggregating.Avg args = Some AggFn.Avg
-function Aggregating.Quantize args = Some AggFn.Quantize
+function (Aggregating.Named f) args = Some f
 function Aggregating.Lquantize args = lquantize args
 
 -- ---- arguments
@@ -55,7 +50,7 @@ integers (more x rest) = is_integer (type_of x) && integers rest
 
 -- count() takes nothing, lquantize three or four arguments, the others one
 abbrev pub takes_arguments : Aggregating → ℕ → Bool
-takes_arguments Aggregating.Count n = nat_le n 0
+takes_arguments (Aggregating.Named AggFn.Count) n = nat_le n 0
 takes_arguments Aggregating.Lquantize n = nat_le 3 n && nat_le n 4
 takes_arguments f n = nat_le 1 n && nat_le n 1
 

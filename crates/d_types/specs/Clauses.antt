@@ -1,13 +1,13 @@
 -- What a run of a clause means: the texts, contributions, exit and variables that it makes.
 -- Source: Dynamic Tracing Guide, "Predicates" and "Actions and Subroutines".
-use Rattle.std.specs.Prelude.{ℕ, zero, suc, ◌%◌, List, [], ◌∷◌, ◌++◌, Option, Some, None, Bool}
-use Rattle.std.specs.Prelude.{true, false, if◌then◌else◌, ℤ, pos, codes}
+use Rattle.std.specs.Prelude.{ℕ, ◌%◌, List, [], ◌∷◌, ◌++◌, Option, Some, None, ℤ, pos, codes}
 use Rattle.std.specs.Option.{option_or}
 use Rattle.d_types.specs.Vocabulary.{decimal, cast_signed, w64, Contribution, contribution, DType}
 use Rattle.d_types.specs.Vocabulary.{KeyPart, Value, Firing, Effect}
 use Rattle.d_types.specs.Typed.{Typed, Typeds, end, more, type_of, ActionOf, Evaluate}
 use Rattle.d_types.specs.Typed.{Trace, Print, Exit, Aggregate, ClauseMeant}
-use Rattle.d_types.specs.Expressions.{Outcome, Has, Faults, with, number_outcome, eval, keys_of}
+use Rattle.d_types.specs.Expressions.{Outcome, Has, Faults, with, number_outcome, at_zero, eval}
+use Rattle.d_types.specs.Expressions.{keys_of}
 use Rattle.d_types.specs.{Storage.Variables, Printing.trace_line, Printing.printf_text}
 
 -- ---- evaluation
@@ -53,29 +53,6 @@ module _ {E Es : Type 0} (by : Evaluation E Es) where
       with (by.key keys vars)
       (λ key vars. with (argument_by argument vars) (λ z. Has (Effect.Adds index key z)))
 
--- ---- statements
-
--- the effects of statements in order, whether a fault ended them, and the variables after them
-pub record Ran : Type 0 where
-  pub effects : List Effect
-  pub faulted : Bool
-  pub variables : Variables
-
-abbrev pub run_with : List Effect → Bool → Variables → Ran
-run_with effects faulted vars = record { effects = effects; faulted = faulted; variables = vars }
-
--- an effect, and then those of the statements after; or the fault, which ends them
-abbrev pub effect_then : Outcome Effect → (Variables → Ran) → Ran
-effect_then (Has effect vars) go =
-    let rest = go vars in run_with (effect ∷ rest.effects) rest.faulted rest.variables
-effect_then (Faults vars) go = run_with [] true vars
-
--- the statements if the word isn't 0
-abbrev pub where_true : Outcome ℕ → (Variables → Ran) → Ran
-where_true (Has zero vars) go = run_with [] false vars
-where_true (Has (suc n) vars) go = go vars
-where_true (Faults vars) go = run_with [] true vars
-
 -- ---- what a run makes
 
 pub record Made : Type 0 where
@@ -84,36 +61,6 @@ pub record Made : Type 0 where
   -- the status of the first exit
   pub exit : Option ℕ
   pub variables : Variables
-
-abbrev pub texts_in : List Effect → List (List ℕ)
-texts_in [] = []
-texts_in (Effect.Says text ∷ rest) = text ∷ texts_in rest
-texts_in (_ ∷ rest) = texts_in rest
-
-abbrev pub contributions_in : List Effect → List Contribution
-contributions_in [] = []
-contributions_in (Effect.Adds index key z ∷ rest) = contribution index key z ∷ contributions_in rest
-contributions_in (_ ∷ rest) = contributions_in rest
-
-abbrev pub exit_in : List Effect → Option ℕ
-exit_in [] = None
-exit_in (Effect.Exits status ∷ rest) = Some status
-exit_in (_ ∷ rest) = exit_in rest
-
--- the line that stands for a fault at the firing of this number in the clause at this index
-abbrev pub fault_line : ℕ → ℕ → List ℕ
-fault_line number index =
-    codes "error: firing "
-    ++ (decimal number ++ (codes " clause " ++ (decimal index ++ codes ": divide-by-zero\n")))
-
--- a fault's line takes the place of all texts
-abbrev pub run_result : List ℕ → Ran → Made
-run_result line all = record {
-  texts = if all.faulted then line ∷ [] else texts_in all.effects;
-  contributions = contributions_in all.effects;
-  exit = exit_in all.effects;
-  variables = all.variables;
-}
 
 -- nothing is made, and the variables stay
 abbrev pub nothing_made : Variables → Made
@@ -129,23 +76,42 @@ and_then a b = record {
   variables = b.variables;
 }
 
+-- what a statement with this effect makes
+abbrev pub effect_result : Effect → Variables → Made
+effect_result Effect.Nothing vars = nothing_made vars
+effect_result (Effect.Says text) vars = record (nothing_made vars) { texts = text ∷ [] }
+effect_result (Effect.Exits status) vars = record (nothing_made vars) { exit = Some status }
+effect_result (Effect.Adds index key z) vars =
+    record (nothing_made vars) { contributions = contribution index key z ∷ [] }
+
+-- the line that stands for a fault at the firing of this number in the clause at this index
+abbrev pub fault_line : ℕ → ℕ → List ℕ
+fault_line number index =
+    codes "error: firing "
+    ++ (decimal number ++ (codes " clause " ++ (decimal index ++ codes ": divide-by-zero\n")))
+
 -- ---- a run
 
+-- a run goes on with what there is; a fault ends it, and its line takes the place of all texts
+abbrev pub go_on : {A : Type 0} → List ℕ → Made → Outcome A → (A → Variables → Made) → Made
+go_on line before (Has x vars) go = go x vars
+go_on line before (Faults vars) go = record before { texts = line ∷ []; variables = vars }
+
 module _ {E Es : Type 0} (by : Evaluation E Es) where
-  -- the statements in order, up to the first that faults
-  abbrev pub statements_by : List (ActionOf E Es) → Variables → Ran
-  statements_by [] vars = run_with [] false vars
-  statements_by (action ∷ rest) vars = effect_then (effect_by by action vars) (statements_by rest)
+  -- what statements make after what was made before them, in order
+  abbrev pub statements_made : List ℕ → List (ActionOf E Es) → Made → Made
+  statements_made line [] before = before
+  statements_made line (action ∷ rest) before =
+      go_on line before (effect_by by action before.variables)
+      (λ effect vars. statements_made line rest (and_then before (effect_result effect vars)))
 
-  -- the statements if the predicate isn't 0
-  abbrev pub where_predicate : Option E → (Variables → Ran) → Variables → Ran
-  where_predicate None go vars = go vars
-  where_predicate (Some a) go vars = where_true (number_outcome (by.value a vars)) go
-
-  -- statements after a predicate, if this line stands for a fault
+  -- statements if the predicate isn't 0, where this line stands for a fault
   abbrev pub run_by : List ℕ → Option E → List (ActionOf E Es) → Variables → Made
-  run_by line predicate statements vars =
-      run_result line (where_predicate predicate (statements_by statements) vars)
+  run_by line None statements vars = statements_made line statements (nothing_made vars)
+  run_by line (Some predicate) statements vars =
+      go_on line (nothing_made vars) (number_outcome (by.value predicate vars))
+      (λ word vars. at_zero word (nothing_made vars)
+      (statements_made line statements (nothing_made vars)))
 
 -- ---- typed trees
 

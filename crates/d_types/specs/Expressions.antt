@@ -1,7 +1,7 @@
 -- What an expression means: its value, or the fault, and the variables after it.
 -- Source: Dynamic Tracing Guide, "Types, Operators, and Expressions".
-use Rattle.std.specs.Prelude.{ℕ, zero, suc, List, [], ◌∷◌, length, Bool, true, false, Result, Ok}
-use Rattle.std.specs.Prelude.{Err, pos, get_or}
+use Rattle.std.specs.Prelude.{ℕ, zero, suc, List, [], ◌∷◌, length, Bool, Result, Ok, Err}
+use Rattle.std.specs.Prelude.{if◌then◌else◌, pos, get_or}
 use Rattle.d_types.specs.Vocabulary.{cast_unsigned, w64, UnaryOperator, Step, OutOfZero, IntType}
 use Rattle.d_types.specs.Vocabulary.{DType, KeyPart, Value, holds_of, text_cmp, joined_text, narrow}
 use Rattle.d_types.specs.Vocabulary.{binary_of, shift_of, opposite_of, complement_of, order_of}
@@ -35,23 +35,20 @@ integer o = with o (λ word. Has (Value.Int word))
 
 -- 1 for true, 0 for false
 abbrev pub truth : Bool → ℕ
-truth true = 1
-truth false = 0
-
--- 1, but 0 stays
-abbrev pub bit : ℕ → ℕ
-bit zero = 0
-bit (suc n) = 1
-
--- 0 becomes 1, and all else 0
-abbrev pub inverse : ℕ → ℕ
-inverse zero = 1
-inverse (suc n) = 0
+truth b = if b then 1 else 0
 
 -- the first if the word is 0, and else the second
 abbrev pub at_zero : {A : Type 0} → ℕ → A → A → A
 at_zero zero a b = a
 at_zero (suc n) a b = b
+
+-- 1, but 0 stays
+abbrev pub bit : ℕ → ℕ
+bit word = at_zero word 0 1
+
+-- 0 becomes 1, and all else 0
+abbrev pub inverse : ℕ → ℕ
+inverse word = at_zero word 1 0
 
 abbrev pub built_in_value : Firing → BuiltIn → Value
 built_in_value f (BuiltIn.Argument n) = Value.Int (cast_unsigned w64 (get_or f.args n (pos 0)))

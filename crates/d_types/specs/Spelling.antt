@@ -1,13 +1,10 @@
 -- What the text of a format means.
 -- Source: Dynamic Tracing Guide, "Output Formatting".
-use Rattle.std.specs.Prelude.{◌≡◌, ℕ, zero, suc, ◌≤◌, ◌==◌, ◌⊎◌, if◌then◌else◌, List, []}
-use Rattle.std.specs.Prelude.{◌∷◌, ◌++◌, codes}
-use Rattle.std.specs.{List.AllByRecursion, Char.char_set_contains}
+use Rattle.std.specs.Prelude.{◌≡◌, ℕ, zero, suc, ◌≤◌, ◌==◌, if◌then◌else◌, List, [], ◌∷◌, ◌++◌}
+use Rattle.std.specs.Prelude.{codes}
+use Rattle.std.specs.List.{AllByRecursion, AllZip, Contains, concat}
+use Rattle.std.specs.Char.{char_set_contains}
 use Rattle.d_types.specs.Vocabulary.{decimal, MAX_WIDTH, Letter, Conversion, Piece}
-
-abbrev pub IsOneOf : {A : Type 0} → A → List A → Type 0
-IsOneOf x [] = ⊥
-IsOneOf x (y ∷ others) = (x ≡ y) ⊎ IsOneOf x others
 
 -- in decimal, or nothing if there is no width
 abbrev pub width_text : ℕ → List ℕ
@@ -30,9 +27,9 @@ letters Letter.Text = codes "s"
 abbrev pub IsConversion : Conversion → List ℕ → Type 0
 IsConversion c text =
     (flags : List ℕ) × (size : List ℕ) × (l : ℕ)
-    × AllByRecursion (λ f. IsOneOf f (codes "-0")) flags
+    × AllByRecursion (Contains (codes "-0")) flags
     × (c.left ≡ char_set_contains flags 45) × (c.zeros ≡ char_set_contains flags 48)
-    × (c.width ≤ MAX_WIDTH) × IsOneOf size lengths × IsOneOf l (letters c.letter)
+    × (c.width ≤ MAX_WIDTH) × Contains lengths size × Contains (letters c.letter) l
     × (text ≡ codes "%" ++ (flags ++ (width_text c.width ++ (size ++ l ∷ []))))
 
 -- a byte stands for itself, but a percent sign is written twice
@@ -42,7 +39,5 @@ SpellsPiece (Piece.Argument c) text = IsConversion c text
 
 -- the format is the pieces' texts, one after another
 abbrev pub SpellsFormat : List Piece → List ℕ → Type 0
-SpellsFormat [] format = format ≡ []
-SpellsFormat (p ∷ ps) format =
-    (text : List ℕ) × (rest : List ℕ) × SpellsPiece p text × SpellsFormat ps rest
-    × (format ≡ text ++ rest)
+SpellsFormat pieces format =
+    (texts : List (List ℕ)) × AllZip SpellsPiece pieces texts × (format ≡ concat texts)

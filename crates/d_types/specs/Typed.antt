@@ -86,9 +86,6 @@ type_of (Fixed b) = type_of_built_in b
 type_of (Read v keys) = v.holds
 type_of (Unary o t a) = type_of_unary o t
 type_of (Operate o a b) = DType.Int (works_in o)
-type_of (Compare o t a b) = DType.Int INT32
-type_of (CompareText o a b) = DType.Int INT32
-type_of (Logic o a b) = DType.Int INT32
 type_of (Choice t c a b) = t
 type_of (Convert t u a) = DType.Int u
 type_of (Assign v keys a) = v.holds
@@ -96,6 +93,8 @@ type_of (Update o v keys a) = v.holds
 type_of (Count step answer v keys) = v.holds
 type_of (Strlen a) = DType.Int UINT64
 type_of (Strjoin a b) = DType.Text
+-- a comparison, or a logical operator
+type_of truth = DType.Int INT32
 
 -- ---- statements and clauses
 

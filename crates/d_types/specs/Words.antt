@@ -3,7 +3,8 @@
 use Rattle.std.specs.Prelude.{ℕ, ◌-◌, List, [], ◌∷◌, codes, Option, Some, None, ◌&&◌}
 use Rattle.std.specs.Prelude.{if◌then◌else◌}
 use Rattle.std.specs.{Char.is_ascii_digit, Map.lookup, Option.option_or}
-use Rattle.d_types.specs.Vocabulary.{bytes_eq, BuiltIn, Callee, Aggregating}
+use Rattle.d_types.specs.Vocabulary.{bytes_eq, BuiltIn, Callee, AggFn, Aggregating}
+use Rattle.d_types.specs.declared.words.Aggregating.TheVariants.{Named, Lquantize}
 
 -- arg0 to arg9
 abbrev pub argument : List ℕ → Option BuiltIn
@@ -36,7 +37,7 @@ callee_named word =
 abbrev pub aggregating_named : List ℕ → Option Aggregating
 aggregating_named word =
     lookup (bytes_eq word)
-    ((codes "count", Aggregating.Count) ∷ (codes "sum", Aggregating.Sum)
-    ∷ (codes "min", Aggregating.Min) ∷ (codes "max", Aggregating.Max)
-    ∷ (codes "avg", Aggregating.Avg) ∷ (codes "quantize", Aggregating.Quantize)
-    ∷ (codes "lquantize", Aggregating.Lquantize) ∷ [])
+    ((codes "count", Named AggFn.Count) ∷ (codes "sum", Named AggFn.Sum)
+    ∷ (codes "min", Named AggFn.Min) ∷ (codes "max", Named AggFn.Max)
+    ∷ (codes "avg", Named AggFn.Avg) ∷ (codes "quantize", Named AggFn.Quantize)
+    ∷ (codes "lquantize", Lquantize) ∷ [])

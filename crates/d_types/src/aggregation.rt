@@ -2,7 +2,7 @@
 
 ghost use Rattle.std.specs.Prelude.{◌≡◌, ◌++◌, ◌∷◌, [], IfOk, OnOk, Some, None, length, option_map};
 ghost use Rattle.d_types.specs.Vocabulary.{tree_of, trees_of};
-ghost use Rattle.d_types.specs.Steps.Faults.{Gives, OnlyMemory};
+ghost use Rattle.d_types.specs.Steps.Faults.{Gives};
 ghost use Rattle.d_types.specs.Typed.{typed_of, typeds_of, action_of, aggs_of, Aggs, agg_of};
 ghost use Rattle.d_types.specs.Variables.{kinds_of_typed};
 ghost use Rattle.d_types.specs.Steps.Variables.{rows_of_entries};
@@ -20,7 +20,7 @@ use aggregations::{AggFn, LinearRange, MAX_STEP};
 use d_lexer::ByteString;
 use d_parser::{Constant, Expr, UnaryOperator};
 use d_values::DType;
-use std::alloc::Global;
+use std::alloc::{AllocError, Global};
 
 fn number_of(e: &Expr) -> Option<u64>
     ensures { result ≡ spec.natural (tree_of e.now) }
@@ -136,12 +136,7 @@ fn function_of(aggregating: Aggregating, args: &[Expr]) -> Option<AggFn>
     ensures { result ≡ spec.function aggregating (trees_of args.now) }
 {
     match aggregating {
-        Aggregating::Count => Some(AggFn::Count),
-        Aggregating::Sum => Some(AggFn::Sum),
-        Aggregating::Min => Some(AggFn::Min),
-        Aggregating::Max => Some(AggFn::Max),
-        Aggregating::Avg => Some(AggFn::Avg),
-        Aggregating::Quantize => Some(AggFn::Quantize),
+        Aggregating::Named(function) => Some(function),
         Aggregating::Lquantize => lquantize(args),
     }
 }
@@ -165,13 +160,16 @@ fn takes(aggregating: Aggregating, n: usize) -> bool
     ensures { result ≡ spec.takes_arguments aggregating n }
 {
     match aggregating {
-        Aggregating::Count => n <= 0,
+        Aggregating::Named(AggFn::Count) => n <= 0,
         Aggregating::Lquantize => 3 <= n && n <= 4,
-        Aggregating::Sum
-        | Aggregating::Min
-        | Aggregating::Max
-        | Aggregating::Avg
-        | Aggregating::Quantize => 1 <= n && n <= 1,
+        Aggregating::Named(
+            AggFn::Sum
+            | AggFn::Min
+            | AggFn::Max
+            | AggFn::Avg
+            | AggFn::Quantize
+            | AggFn::Lquantize(_),
+        ) => 1 <= n && n <= 1,
     }
 }
 
@@ -249,7 +247,7 @@ fn define(
     name: &ByteString,
     keys: &[TypedExpr],
     function: AggFn,
-) -> Result<usize, TypeFault>
+) -> Result<usize, AllocError>
     ensures index { IfOk result (λ index. index ≡ length (aggs_of aggs.old.items)) }
     ensures added { OnOk result (aggs_of aggs.new.items ≡ aggs_of aggs.old.items
         ++ record {
@@ -258,7 +256,6 @@ fn define(
           function = function;
         }
         ∷ []) }
-    ensures err { OnlyMemory result }
 {
     let index = aggs.len();
     let name = copy_of(alloc, name)?;
@@ -287,7 +284,10 @@ fn new_index(
         return Err(TypeFault::Keys { line });
     }
     match usage.function {
-        Some(function) => define(alloc, aggs, usage.name, keys, function),
+        Some(function) => {
+            let index = define(alloc, aggs, usage.name, keys, function)?;
+            Ok(index)
+        }
         None => Err(TypeFault::LquantizeBounds { line }),
     }
 }

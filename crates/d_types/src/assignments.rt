@@ -1,7 +1,7 @@
 //! Assignments to a slot. None if the types don't fit.
 
 ghost use Rattle.std.specs.Prelude.{◌≡◌, IfOk, Some, None, option_map};
-ghost use Rattle.d_types.specs.Steps.Faults.{Gives, OnlyMemory};
+ghost use Rattle.d_types.specs.Steps.Faults.{Gives};
 ghost use Rattle.d_types.specs.Typed.{typed_of, typeds_of, Typed, type_of};
 ghost use Rattle.d_types.specs.{Operators.conversion_node};
 ghost use Rattle.d_types.specs.Vocabulary.{common_of, Int};
@@ -19,7 +19,7 @@ use crate::typed::{Answer, Operation, Space, TypedExpr, Variable};
 use crate::variables::{Entry, set_type, type_at};
 use d_parser::{AssignOperator, IntegerType, Step};
 use d_values::{ArithmeticOperator, DType, IntType, common, promotion_of};
-use std::alloc::Global;
+use std::alloc::{AllocError, Global};
 
 /// What is assigned: the variable of a slot, under its keys.
 #[derive(Drop)]
@@ -47,11 +47,10 @@ fn variable_and_value(
     holds: DType,
     to: &Assignee,
     x: TypedExpr,
-) -> Result<(Variable, Box<TypedExpr>), TypeFault>
+) -> Result<(Variable, Box<TypedExpr>), AllocError>
     ensures ok { IfOk result (λ both.
         (both.0 ≡ record { space = to.now.space; slot = to.now.slot; holds = holds })
         × (both.1.value ≡ x)) }
-    ensures err { OnlyMemory result }
 {
     let x = boxed(alloc, x)?;
     let variable = variable_at(to.space, to.slot, holds)?;
@@ -63,11 +62,10 @@ fn assign_of(
     holds: DType,
     to: Assignee,
     x: TypedExpr,
-) -> Result<Option<TypedExpr>, TypeFault>
+) -> Result<Option<TypedExpr>, AllocError>
     ensures ok { IfOk result (λ y. option_map typed_of y ≡ Some (Typed.Assign
         (record { space = to.space; slot = to.slot; holds = holds }) (typeds_of to.keys.items)
         (typed_of x))) }
-    ensures err { OnlyMemory result }
 {
     let (variable, x) = variable_and_value(alloc, holds, &to, x)?;
     Ok(Some(TypedExpr::Assign(variable, to.keys, x)))
@@ -79,11 +77,10 @@ fn update_of(
     holds: DType,
     to: Assignee,
     x: TypedExpr,
-) -> Result<Option<TypedExpr>, TypeFault>
+) -> Result<Option<TypedExpr>, AllocError>
     ensures ok { IfOk result (λ y. option_map typed_of y ≡ Some (Typed.Update operation
         (record { space = to.space; slot = to.slot; holds = holds }) (typeds_of to.keys.items)
         (typed_of x))) }
-    ensures err { OnlyMemory result }
 {
     let (variable, x) = variable_and_value(alloc, holds, &to, x)?;
     Ok(Some(TypedExpr::Update(operation, variable, to.keys, x)))
@@ -101,11 +98,10 @@ fn store_first(
     table: &mut [Entry],
     to: Assignee,
     x: TypedExpr,
-) -> Result<Option<TypedExpr>, TypeFault>
+) -> Result<Option<TypedExpr>, AllocError>
     ensures ok { IfOk result (λ y. option_map (λ z. (typed_of z, rows_of_entries table.new)) y
         ≡ steps.store to.space None to.slot (typeds_of to.keys.items) (typed_of x)
         (rows_of_entries table.old)) }
-    ensures err { OnlyMemory result }
 {
     let holds = x.type_of();
     set_type(table, to.slot, holds);
@@ -117,11 +113,10 @@ fn store(
     table: &mut [Entry],
     to: Assignee,
     x: TypedExpr,
-) -> Result<Option<TypedExpr>, TypeFault>
+) -> Result<Option<TypedExpr>, AllocError>
     ensures ok { IfOk result (λ y. option_map (λ z. (typed_of z, rows_of_entries table.new)) y
         ≡ steps.store to.space (type_at (rows_of_entries table.old) to.slot) to.slot
         (typeds_of to.keys.items) (typed_of x) (rows_of_entries table.old)) }
-    ensures err { OnlyMemory result }
 {
     match type_at(table, to.slot) {
         None => store_first(alloc, table, to, x),
@@ -140,12 +135,11 @@ fn update_in_common(
     to: Assignee,
     u: IntType,
     x: TypedExpr,
-) -> Result<Option<TypedExpr>, TypeFault>
+) -> Result<Option<TypedExpr>, AllocError>
     ensures ok { IfOk result (λ y. option_map typed_of y ≡ Some (Typed.Update
         (Operation.Arithmetic op (common_of t u))
         (record { space = to.space; slot = to.slot; holds = Int t }) (typeds_of to.keys.items)
         (conversion_node u (common_of t u) (typed_of x)))) }
-    ensures err { OnlyMemory result }
 {
     let both = common(t, u);
     let x = convert(alloc, u, both, x)?;
@@ -159,12 +153,11 @@ pub(crate) fn assignment(
     operator: AssignOperator,
     to: Assignee,
     x: TypedExpr,
-) -> Result<Option<TypedExpr>, TypeFault>
+) -> Result<Option<TypedExpr>, AllocError>
     ensures ok { IfOk result (λ y. option_map (λ z. (typed_of z, rows_of_entries table.new)) y
         ≡ steps.assignment operator to.space (type_at (rows_of_entries table.old) to.slot)
         (type_of (typed_of x)) to.slot (typeds_of to.keys.items) (typed_of x)
         (rows_of_entries table.old)) }
-    ensures err { OnlyMemory result }
 {
     match (operator, type_at(table, to.slot), x.type_of()) {
         (AssignOperator::Set, _, _) => store(alloc, table, to, x),

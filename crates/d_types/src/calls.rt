@@ -2,20 +2,17 @@
 
 ghost use Rattle.std.specs.Prelude.{◌≡◌, IfOk, option_map, Some};
 ghost use Rattle.d_types.specs.Typed.{typed_of, typeds_of, type_of, Typed};
-ghost use Rattle.d_types.specs.Steps.Faults.{OnlyMemory};
 ghost use Rattle.d_types.specs.Steps.Typing as spec;
 
-use crate::fault::TypeFault;
 use crate::operations::{boxed, boxed_two};
 use crate::typed::TypedExpr;
 use crate::words::Callee;
 use d_values::DType;
-use std::alloc::Global;
+use std::alloc::{AllocError, Global};
 
-fn length_of(alloc: Global, x: TypedExpr) -> Result<Option<TypedExpr>, TypeFault>
+fn length_of(alloc: Global, x: TypedExpr) -> Result<Option<TypedExpr>, AllocError>
     ensures ok { IfOk result
         (λ y. option_map typed_of y ≡ spec.strlen (type_of (typed_of x)) (typed_of x)) }
-    ensures err { OnlyMemory result }
 {
     match x.type_of() {
         DType::Text => {
@@ -29,10 +26,9 @@ fn length_of(alloc: Global, x: TypedExpr) -> Result<Option<TypedExpr>, TypeFault
     }
 }
 
-fn join(alloc: Global, x: TypedExpr, y: TypedExpr) -> Result<Option<TypedExpr>, TypeFault>
+fn join(alloc: Global, x: TypedExpr, y: TypedExpr) -> Result<Option<TypedExpr>, AllocError>
     ensures ok { IfOk result (λ z. option_map typed_of z
         ≡ spec.strjoin (type_of (typed_of x)) (type_of (typed_of y)) (typed_of x) (typed_of y)) }
-    ensures err { OnlyMemory result }
 {
     match (x.type_of(), y.type_of()) {
         (DType::Text, DType::Text) => join_texts(alloc, x, y),
@@ -44,10 +40,9 @@ fn join(alloc: Global, x: TypedExpr, y: TypedExpr) -> Result<Option<TypedExpr>, 
     }
 }
 
-fn join_texts(alloc: Global, x: TypedExpr, y: TypedExpr) -> Result<Option<TypedExpr>, TypeFault>
+fn join_texts(alloc: Global, x: TypedExpr, y: TypedExpr) -> Result<Option<TypedExpr>, AllocError>
     ensures ok { IfOk result
         (λ z. option_map typed_of z ≡ Some (Typed.Strjoin (typed_of x) (typed_of y))) }
-    ensures err { OnlyMemory result }
 {
     let (x, y) = boxed_two(alloc, x, y)?;
     Ok(Some(TypedExpr::Strjoin(x, y)))
@@ -68,10 +63,9 @@ pub(crate) fn only(args: Vec<TypedExpr>) -> Option<TypedExpr>
     Some(x)
 }
 
-fn strlen(alloc: Global, args: Vec<TypedExpr>) -> Result<Option<TypedExpr>, TypeFault>
+fn strlen(alloc: Global, args: Vec<TypedExpr>) -> Result<Option<TypedExpr>, AllocError>
     ensures ok { IfOk result
         (λ y. option_map typed_of y ≡ spec.strlen_of (spec.only (typeds_of args.items))) }
-    ensures err { OnlyMemory result }
 {
     match only(args) {
         Some(x) => length_of(alloc, x),
@@ -79,9 +73,8 @@ fn strlen(alloc: Global, args: Vec<TypedExpr>) -> Result<Option<TypedExpr>, Type
     }
 }
 
-fn strjoin(alloc: Global, args: Vec<TypedExpr>) -> Result<Option<TypedExpr>, TypeFault>
+fn strjoin(alloc: Global, args: Vec<TypedExpr>) -> Result<Option<TypedExpr>, AllocError>
     ensures ok { IfOk result (λ y. option_map typed_of y ≡ spec.strjoin_of (typeds_of args.items)) }
-    ensures err { OnlyMemory result }
 {
     let mut rest = args;
     let Some(y) = rest.pop() else {
@@ -101,10 +94,9 @@ pub(crate) fn call(
     alloc: Global,
     callee: Callee,
     args: Vec<TypedExpr>,
-) -> Result<Option<TypedExpr>, TypeFault>
+) -> Result<Option<TypedExpr>, AllocError>
     ensures ok { IfOk result
         (λ y. option_map typed_of y ≡ spec.call callee (typeds_of args.items)) }
-    ensures err { OnlyMemory result }
 {
     match callee {
         Callee::Strlen => strlen(alloc, args),

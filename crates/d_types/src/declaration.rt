@@ -2,7 +2,7 @@
 
 ghost use Rattle.std.specs.Prelude.{◌≡◌, ◌++◌, ◌∷◌, [], IfOk, OnOk, Some};
 ghost use Rattle.d_types.specs.{Vocabulary.declaration_of, Constants.declared_type};
-ghost use Rattle.d_types.specs.Steps.Faults.{Gives, OnlyMemory};
+ghost use Rattle.d_types.specs.Steps.Faults.{Gives};
 ghost use Rattle.d_types.specs.Variables.{find};
 ghost use Rattle.d_types.specs.Steps.Variables.{rows_of_entries};
 ghost use Rattle.d_types.specs.Steps.Scripts as spec;
@@ -32,7 +32,7 @@ fn add_declared(
     variable: VariableName<'_>,
     declared: DeclaredType,
     keys: &[DeclaredType],
-) -> Result<(), TypeFault>
+) -> Result<(), AllocError>
     ensures added { OnOk result (rows_of_entries table.new.items ≡ rows_of_entries table.old.items
         ++ record {
           space = variable.entry.space;
@@ -40,7 +40,6 @@ fn add_declared(
           keys = declared_kinds keys.now;
           holds = Some (declared_type declared);
         } ∷ []) }
-    ensures err { OnlyMemory result }
 {
     let space = variable.space;
     let name = copy_of(alloc, variable.name)?;

@@ -2,15 +2,13 @@
 
 ghost use Rattle.std.specs.Prelude.{◌≡◌, IfOk, OnOk, option_map, []};
 ghost use Rattle.d_types.specs.{Typed.typeds_of};
-ghost use Rattle.d_types.specs.Steps.Faults.{OnlyMemory};
 ghost use Rattle.d_types.specs.Formats as spec;
 ghost use Rattle.d_types.specs.Steps.Formats as steps;
 
-use crate::fault::TypeFault;
 use crate::limits::MAX_WIDTH;
 use crate::typed::{Conversion, Letter, Piece, TypedExpr};
 use d_values::DType;
-use std::alloc::Global;
+use std::alloc::{AllocError, Global};
 
 /// A conversion as far as it was read.
 #[derive(Clone, Copy)]
@@ -140,9 +138,8 @@ fn is_outside(place: Place) -> bool
     matches!(place, Place::Outside)
 }
 
-fn add(pieces: &mut Vec<Piece>, ended: Option<Piece>) -> Result<(), TypeFault>
+fn add(pieces: &mut Vec<Piece>, ended: Option<Piece>) -> Result<(), AllocError>
     ensures ok { OnOk result (pieces.new.items ≡ steps.with_piece pieces.old.items ended) }
-    ensures err { OnlyMemory result }
 {
     if let Some(piece) = ended {
         pieces.push(piece)?;
@@ -151,9 +148,8 @@ fn add(pieces: &mut Vec<Piece>, ended: Option<Piece>) -> Result<(), TypeFault>
 }
 
 /// The pieces of a format. None if it has an unknown conversion.
-pub(crate) fn pieces(alloc: Global, format: &[u8]) -> Result<Option<Vec<Piece>>, TypeFault>
+pub(crate) fn pieces(alloc: Global, format: &[u8]) -> Result<Option<Vec<Piece>>, AllocError>
     ensures ok { IfOk result (λ ps. option_map (λ v. v.items) ps ≡ steps.pieces format.now) }
-    ensures err { OnlyMemory result }
 {
     let mut done = Vec::new(alloc);
     let mut place = Place::Outside;

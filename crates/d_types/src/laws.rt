@@ -24,7 +24,7 @@ pub fn six_registers()
     ensures { (m : ScriptMeant) → ∥ IsMeant m ∥₁ → ScriptFits m }
 {}
 
-/// A typed script has at most 65,536 descriptions, as many statements, and as many indices of
+/// A typed script has at most 65,536 descriptions, as many statements, and as many places of
 /// variables, all clauses together.
 pub fn sizes_kept()
     ensures { (m : ScriptMeant) → ∥ IsMeant m ∥₁ → HasAtMost MAX_BYTES m }

@@ -6,29 +6,25 @@
 ghost use Rattle.std.specs.Prelude.{◌≡◌, IfOk, option_map, Some};
 ghost use Rattle.d_types.specs.Vocabulary.{common_of, promoted_of, Int, Text};
 ghost use Rattle.d_types.specs.{Typed.typed_of, Typed.Typed, Typed.type_of};
-ghost use Rattle.d_types.specs.Steps.Faults.{OnlyMemory};
 ghost use Rattle.d_types.specs.Operators as spec;
 ghost use Rattle.d_types.specs.Steps.Operators as steps;
 
-use crate::fault::TypeFault;
 use crate::typed::{Operation, TypedExpr};
 use d_parser::{BinaryOperator, LogicOperator, UnaryOperator};
 use d_values::{ComparisonOperator, DType, IntType, ShiftOperator, common, promotion_of};
-use std::alloc::Global;
+use std::alloc::{AllocError, Global};
 
 /// A value in a box.
-pub(crate) fn boxed<T: Drop>(alloc: Global, x: T) -> Result<Box<T>, TypeFault>
+pub(crate) fn boxed<T: Drop>(alloc: Global, x: T) -> Result<Box<T>, AllocError>
     ensures ok { IfOk result (λ y. y.value ≡ x) }
-    ensures err { OnlyMemory result }
 {
     let boxed = Box::new(alloc, x)?;
     Ok(boxed)
 }
 
 /// Two values, each in a box.
-pub(crate) fn boxed_two<T: Drop>(alloc: Global, x: T, y: T) -> Result<(Box<T>, Box<T>), TypeFault>
+pub(crate) fn boxed_two<T: Drop>(alloc: Global, x: T, y: T) -> Result<(Box<T>, Box<T>), AllocError>
     ensures ok { IfOk result (λ two. (two.0.value ≡ x) × (two.1.value ≡ y)) }
-    ensures err { OnlyMemory result }
 {
     let x = boxed(alloc, x)?;
     let y = boxed(alloc, y)?;
@@ -41,9 +37,8 @@ pub(crate) fn convert(
     from: IntType,
     to: IntType,
     x: TypedExpr,
-) -> Result<TypedExpr, TypeFault>
+) -> Result<TypedExpr, AllocError>
     ensures ok { IfOk result (λ y. typed_of y ≡ spec.conversion_node from to (typed_of x)) }
-    ensures err { OnlyMemory result }
 {
     if from == to {
         Ok(x)
@@ -60,11 +55,10 @@ fn in_common(
     u: IntType,
     x: TypedExpr,
     y: TypedExpr,
-) -> Result<(TypedExpr, TypedExpr), TypeFault>
+) -> Result<(TypedExpr, TypedExpr), AllocError>
     ensures ok { IfOk result (λ both.
         (typed_of both.0 ≡ spec.conversion_node t (common_of t u) (typed_of x))
         × (typed_of both.1 ≡ spec.conversion_node u (common_of t u) (typed_of y))) }
-    ensures err { OnlyMemory result }
 {
     let to = common(t, u);
     let x = convert(alloc, t, to, x);
@@ -77,10 +71,9 @@ pub(crate) fn as_type(
     alloc: Global,
     to: DType,
     x: TypedExpr,
-) -> Result<Option<TypedExpr>, TypeFault>
+) -> Result<Option<TypedExpr>, AllocError>
     ensures ok { IfOk result
         (λ y. option_map typed_of y ≡ steps.as_type (type_of (typed_of x)) to (typed_of x)) }
-    ensures err { OnlyMemory result }
 {
     match (x.type_of(), to) {
         (DType::Int(t), DType::Int(u)) => {
@@ -99,10 +92,9 @@ pub(crate) fn unary(
     alloc: Global,
     operator: UnaryOperator,
     x: TypedExpr,
-) -> Result<Option<TypedExpr>, TypeFault>
+) -> Result<Option<TypedExpr>, AllocError>
     ensures ok { IfOk result
         (λ y. option_map typed_of y ≡ steps.unary operator (type_of (typed_of x)) (typed_of x)) }
-    ensures err { OnlyMemory result }
 {
     match x.type_of() {
         DType::Int(t) => {
@@ -123,10 +115,9 @@ fn unary_of(
     operator: UnaryOperator,
     promoted: IntType,
     x: TypedExpr,
-) -> Result<Option<TypedExpr>, TypeFault>
+) -> Result<Option<TypedExpr>, AllocError>
     ensures ok { IfOk result
         (λ y. option_map typed_of y ≡ Some (Typed.Unary operator promoted (typed_of x))) }
-    ensures err { OnlyMemory result }
 {
     let x = boxed(alloc, x)?;
     Ok(Some(TypedExpr::Unary(operator, promoted, x)))
@@ -137,10 +128,9 @@ fn operate(
     operation: Operation,
     x: TypedExpr,
     y: TypedExpr,
-) -> Result<Option<TypedExpr>, TypeFault>
+) -> Result<Option<TypedExpr>, AllocError>
     ensures ok { IfOk result
         (λ z. option_map typed_of z ≡ Some (Typed.Operate operation (typed_of x) (typed_of y))) }
-    ensures err { OnlyMemory result }
 {
     let (x, y) = boxed_two(alloc, x, y)?;
     Ok(Some(TypedExpr::Operate(operation, x, y)))
@@ -153,11 +143,10 @@ fn shift(
     t: IntType,
     x: TypedExpr,
     y: TypedExpr,
-) -> Result<Option<TypedExpr>, TypeFault>
+) -> Result<Option<TypedExpr>, AllocError>
     ensures ok { IfOk result (λ z. option_map typed_of z ≡ Some (Typed.Operate
         (Operation.Shift op (promoted_of t)) (spec.conversion_node t (promoted_of t) (typed_of x))
         (typed_of y))) }
-    ensures err { OnlyMemory result }
 {
     let promoted = promotion_of(t);
     let x = convert(alloc, t, promoted, x);
@@ -171,10 +160,9 @@ fn compare_integers(
     t: IntType,
     x: TypedExpr,
     y: TypedExpr,
-) -> Result<Option<TypedExpr>, TypeFault>
+) -> Result<Option<TypedExpr>, AllocError>
     ensures ok { IfOk result
         (λ z. option_map typed_of z ≡ Some (Typed.Compare op t (typed_of x) (typed_of y))) }
-    ensures err { OnlyMemory result }
 {
     let (x, y) = boxed_two(alloc, x, y)?;
     Ok(Some(TypedExpr::Compare(op, t, x, y)))
@@ -185,10 +173,9 @@ fn compare_texts(
     op: ComparisonOperator,
     x: TypedExpr,
     y: TypedExpr,
-) -> Result<Option<TypedExpr>, TypeFault>
+) -> Result<Option<TypedExpr>, AllocError>
     ensures ok { IfOk result
         (λ z. option_map typed_of z ≡ Some (Typed.CompareText op (typed_of x) (typed_of y))) }
-    ensures err { OnlyMemory result }
 {
     let (x, y) = boxed_two(alloc, x, y)?;
     Ok(Some(TypedExpr::CompareText(op, x, y)))
@@ -199,10 +186,9 @@ fn logic(
     op: LogicOperator,
     x: TypedExpr,
     y: TypedExpr,
-) -> Result<Option<TypedExpr>, TypeFault>
+) -> Result<Option<TypedExpr>, AllocError>
     ensures ok { IfOk result
         (λ z. option_map typed_of z ≡ Some (Typed.Logic op (typed_of x) (typed_of y))) }
-    ensures err { OnlyMemory result }
 {
     let (x, y) = boxed_two(alloc, x, y)?;
     Ok(Some(TypedExpr::Logic(op, x, y)))
@@ -215,10 +201,9 @@ fn of_integers(
     types: (IntType, IntType),
     x: TypedExpr,
     y: TypedExpr,
-) -> Result<Option<TypedExpr>, TypeFault>
+) -> Result<Option<TypedExpr>, AllocError>
     ensures ok { IfOk result (λ z. option_map typed_of z
         ≡ steps.binary operator (Int types.0) (Int types.1) (typed_of x) (typed_of y)) }
-    ensures err { OnlyMemory result }
 {
     let (t, u) = types;
     match operator {
@@ -241,10 +226,9 @@ fn of_texts(
     operator: BinaryOperator,
     x: TypedExpr,
     y: TypedExpr,
-) -> Result<Option<TypedExpr>, TypeFault>
+) -> Result<Option<TypedExpr>, AllocError>
     ensures ok { IfOk result (λ z. option_map typed_of z
         ≡ steps.binary operator Text Text (typed_of x) (typed_of y)) }
-    ensures err { OnlyMemory result }
 {
     match operator {
         BinaryOperator::Compare(op) => compare_texts(alloc, op, x, y),
@@ -262,11 +246,10 @@ pub(crate) fn binary(
     operator: BinaryOperator,
     x: TypedExpr,
     y: TypedExpr,
-) -> Result<Option<TypedExpr>, TypeFault>
+) -> Result<Option<TypedExpr>, AllocError>
     ensures ok { IfOk result
         (λ z. option_map typed_of z ≡ steps.binary operator (type_of (typed_of x))
         (type_of (typed_of y)) (typed_of x) (typed_of y)) }
-    ensures err { OnlyMemory result }
 {
     match (x.type_of(), y.type_of()) {
         (DType::Int(t), DType::Int(u)) => of_integers(alloc, operator, (t, u), x, y),
@@ -285,10 +268,9 @@ fn choice_of(
     x: TypedExpr,
     y: TypedExpr,
     z: TypedExpr,
-) -> Result<Option<TypedExpr>, TypeFault>
+) -> Result<Option<TypedExpr>, AllocError>
     ensures ok { IfOk result (λ w. option_map typed_of w
         ≡ Some (Typed.Choice t (typed_of x) (typed_of y) (typed_of z))) }
-    ensures err { OnlyMemory result }
 {
     let sides = boxed_two(alloc, y, z);
     let (x, (y, z)) = sides.map(|sides| (x, sides))?;
@@ -302,12 +284,11 @@ fn choice_in_common(
     x: TypedExpr,
     y: TypedExpr,
     z: TypedExpr,
-) -> Result<Option<TypedExpr>, TypeFault>
+) -> Result<Option<TypedExpr>, AllocError>
     ensures ok { IfOk result (λ w. option_map typed_of w
         ≡ Some (Typed.Choice (Int (common_of types.0 types.1)) (typed_of x)
         (spec.conversion_node types.0 (common_of types.0 types.1) (typed_of y))
         (spec.conversion_node types.1 (common_of types.0 types.1) (typed_of z)))) }
-    ensures err { OnlyMemory result }
 {
     let (t, u) = types;
     let sides = in_common(alloc, t, u, y, z);
@@ -321,10 +302,9 @@ pub(crate) fn choice(
     x: TypedExpr,
     y: TypedExpr,
     z: TypedExpr,
-) -> Result<Option<TypedExpr>, TypeFault>
+) -> Result<Option<TypedExpr>, AllocError>
     ensures ok { IfOk result (λ w. option_map typed_of w ≡ steps.choice (type_of (typed_of x))
         (type_of (typed_of y)) (type_of (typed_of z)) (typed_of x) (typed_of y) (typed_of z)) }
-    ensures err { OnlyMemory result }
 {
     match (x.type_of(), y.type_of(), z.type_of()) {
         (DType::Int(_), DType::Int(t), DType::Int(u)) => choice_in_common(alloc, (t, u), x, y, z),

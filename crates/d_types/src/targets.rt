@@ -2,7 +2,7 @@
 
 ghost use Rattle.std.specs.Prelude.{◌≡◌, ◌++◌, ◌∷◌, [], IfOk, OnOk, Ok, Err, length};
 ghost use Rattle.std.specs.Prelude.{if◌then◌else◌};
-ghost use Rattle.d_types.specs.Steps.Faults.{Gives, OnlyMemory};
+ghost use Rattle.d_types.specs.Steps.Faults.{Gives};
 ghost use Rattle.d_types.specs.Typed.{typed_of, typeds_of, Typed};
 ghost use Rattle.d_types.specs.Variables.{Rows, find, type_at, kinds_of_typed};
 ghost use Rattle.d_types.specs.Steps.Variables.{rows_of_entries};
@@ -17,7 +17,7 @@ use crate::variables::{Entry, find, keys_fit, kinds_of, set_type, type_at};
 use crate::words::built_in;
 use d_lexer::ByteString;
 use d_values::DType;
-use std::alloc::Global;
+use std::alloc::{AllocError, Global};
 
 /// The line of a variable's first token.
 pub(crate) fn line_of_variable(variable: &d_parser::Variable) -> usize
@@ -40,15 +40,14 @@ pub(crate) fn space_of(variable: &d_parser::Variable) -> Space
     }
 }
 
-// A script has at most 65,536 declarations and indices of variables, so a slot always fits; this
+// A script has at most 65,536 declarations and places of variables, so a slot always fits; this
 // isn't proved, and such a slot would be reported as out of memory.
-pub(crate) fn variable_at(space: Space, slot: usize, holds: DType) -> Result<Variable, TypeFault>
+pub(crate) fn variable_at(space: Space, slot: usize, holds: DType) -> Result<Variable, AllocError>
     ensures ok { IfOk result (λ v. v ≡ record { space = space; slot = slot; holds = holds }) }
-    ensures err { OnlyMemory result }
 {
     match u16::try_from(slot) {
         Ok(slot) => Ok(Variable { space, slot, holds }),
-        Err(_) => Err(TypeFault::Memory),
+        Err(_) => Err(AllocError),
     }
 }
 
@@ -157,11 +156,10 @@ pub(crate) fn read(
 }
 
 /// A copy of a name.
-pub(crate) fn copy_of(alloc: Global, name: &ByteString) -> Result<ByteString, TypeFault>
+pub(crate) fn copy_of(alloc: Global, name: &ByteString) -> Result<ByteString, AllocError>
     ensures ok { IfOk result (λ w. w ≡ name.now) }
-    ensures err { OnlyMemory result }
 {
-    Ok(ByteString::from_slice(alloc, name.as_slice())?)
+    ByteString::from_slice(alloc, name.as_slice())
 }
 
 fn plain_target(
@@ -211,12 +209,11 @@ fn add_entry(
     variable: VariableName<'_>,
     holds: Option<DType>,
     keys: &[TypedExpr],
-) -> Result<usize, TypeFault>
+) -> Result<usize, AllocError>
     ensures slot { IfOk result (λ slot. slot ≡ length (rows_of_entries table.old.items)) }
     ensures added { OnOk result (rows_of_entries table.new.items ≡ rows_of_entries table.old.items
         ++ spec.new_row variable.entry.space variable.entry.name.now holds
         (kinds_of_typed (typeds_of keys.now)) ∷ []) }
-    ensures err { OnlyMemory result }
 {
     let slot = table.len();
     let space = variable.space;
@@ -258,7 +255,8 @@ fn slot_for(
     match find(table, variable.space, variable.name.as_slice()) {
         None => {
             check_keys(keys.len() <= most_keys(variable.space), variable.line)?;
-            add_entry(alloc, table, variable, holds, keys)
+            let slot = add_entry(alloc, table, variable, holds, keys)?;
+            Ok(slot)
         }
         Some(slot) => {
             check_keys(keys_fit(table, slot, keys), variable.line)?;

@@ -10,7 +10,7 @@ use d_values::DType;
 use std::alloc::{AllocError, Global};
 
 /// A script that is well typed, with every register need at most 6, with at most 65,536
-/// descriptions, as many statements, and as many declarations and indices of variables together, and
+/// descriptions, as many statements, and as many declarations and places of variables together, and
 /// with numbers below 2^64.
 #[derive(Drop)]
 pub struct TypedScript {

@@ -6,6 +6,7 @@ ghost use Rattle.d_types.specs.{Vocabulary.bytes_eq};
 ghost use Rattle.d_types.specs.Words as spec;
 
 use crate::typed::BuiltIn;
+use aggregations::AggFn;
 
 /// A function or an action (Dynamic Tracing Guide, "Actions and Subroutines").
 #[derive(Clone, Copy)]
@@ -17,15 +18,10 @@ pub enum Callee {
     Exit,
 }
 
-/// An aggregating function, without its bounds.
+/// An aggregating function: known by its name, or `lquantize`, whose bounds are arguments.
 #[derive(Clone, Copy)]
 pub enum Aggregating {
-    Count,
-    Sum,
-    Min,
-    Max,
-    Avg,
-    Quantize,
+    Named(AggFn),
     Lquantize,
 }
 
@@ -107,17 +103,17 @@ pub(crate) fn aggregating_named(word: &[u8]) -> Option<Aggregating>
     ensures { result ≡ spec.aggregating_named word.now }
 {
     if is(word, "count") {
-        Some(Aggregating::Count)
+        Some(Aggregating::Named(AggFn::Count))
     } else if is(word, "sum") {
-        Some(Aggregating::Sum)
+        Some(Aggregating::Named(AggFn::Sum))
     } else if is(word, "min") {
-        Some(Aggregating::Min)
+        Some(Aggregating::Named(AggFn::Min))
     } else if is(word, "max") {
-        Some(Aggregating::Max)
+        Some(Aggregating::Named(AggFn::Max))
     } else if is(word, "avg") {
-        Some(Aggregating::Avg)
+        Some(Aggregating::Named(AggFn::Avg))
     } else if is(word, "quantize") {
-        Some(Aggregating::Quantize)
+        Some(Aggregating::Named(AggFn::Quantize))
     } else if is(word, "lquantize") {
         Some(Aggregating::Lquantize)
     } else {

@@ -11,7 +11,7 @@ use Rattle.std.proofs.lemmas.Nat.{mod_below, and_le_l, or_lt, xor_lt, shr_le}
 use Rattle.std.proofs.Math.Nat.{div-le_self, mod-le}
 use Rattle.std.proofs.Math.Facts.{to_z-neg}
 use Rattle.d_values.specs.Numbers.{modulo, bits_of, read, whole_of, whole_shift_of}
-use Rattle.d_values.specs.Words.{operate, shift_result, sum_of, difference_of, product_of}
+use Rattle.d_values.specs.Words.{operate, shift_result, sum_of, difference_of}
 use Rattle.d_values.specs.declared.operators.ArithmeticOperator.{ArithmeticOperator}
 use Rattle.d_values.specs.declared.operators.ArithmeticOperator.TheVariants.{Multiply, Divide}
 use Rattle.d_values.specs.declared.operators.ArithmeticOperator.TheVariants.{Remainder, Add}
@@ -98,7 +98,7 @@ difference a b sa sb = ap unsigned_abs (int_rem_euclid_is (pos a -ℤ pos b) (po
 
 pub operated : (op : ArithmeticOperator) (signed : Bool) (a b : ℕ) → a < 2 ^ 64 → b < 2 ^ 64
     → bits_of (whole_of op (read signed a) (read signed b)) ≡ operate op signed a b
-operated Multiply true a b sa sb = from_wrapped (product_of a b) _ (omega arith) (wrapping_mul-bits w64 a b sa sb)
+operated Multiply true a b sa sb = from_wrapped (operate Multiply true a b) _ (omega arith) (wrapping_mul-bits w64 a b sa sb)
 operated Multiply false a b sa sb = refl
 operated Divide true a b sa sb = quotient_small (cast_signed w64 a) (cast_signed w64 b) (abs_cast_signed a sa)
 operated Divide false a b sa sb = bits_of-pos (a / b) (omega (arith, div-le_self a b))

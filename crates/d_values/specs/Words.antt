@@ -2,7 +2,7 @@
 -- Source: Dynamic Tracing Guide, "Type Conversions".
 use Rattle.std.specs.Prelude.{ℕ, ◌+◌, ◌-◌, ◌*◌, ◌/◌, ◌%◌, ◌^◌, Bool, true, false, ◌&&◌, ◌==◌}
 use Rattle.std.specs.Prelude.{nat_le, if◌then◌else◌, Result, Ok, Err, bit_and, bit_or, bit_xor}
-use Rattle.std.specs.Prelude.{int_div, int_rem}
+use Rattle.std.specs.Prelude.{ℤ, int_div, int_rem}
 use Rattle.std.specs.Int.{cast_unsigned}
 use Rattle.d_values.specs.Vocabulary.{int_shr, cast_signed, w64, nat_cmp, int_cmp, Ordering}
 use Rattle.d_values.specs.Vocabulary.{IntType, ArithmeticOperator, ShiftOperator, OutOfZero}
@@ -29,36 +29,26 @@ sum_of a b = (a + b) % 2 ^ 64
 abbrev pub difference_of : ℕ → ℕ → ℕ
 difference_of a b = (a + (2 ^ 64 - b)) % 2 ^ 64
 
-abbrev pub product_of : ℕ → ℕ → ℕ
-product_of a b = (a * b) % 2 ^ 64
+-- an operator on signed numbers, as one on the words that stand for them
+abbrev pub on_signed : (ℤ → ℤ → ℤ) → ℕ → ℕ → ℕ
+on_signed f a b = cast_unsigned w64 (f (cast_signed w64 a) (cast_signed w64 b))
 
--- the quotient of signed or of unsigned words, cut toward zero
-abbrev pub quotient_of : Bool → ℕ → ℕ → ℕ
-quotient_of signed a b =
-    if signed then cast_unsigned w64 (int_div (cast_signed w64 a) (cast_signed w64 b)) else a / b
-
-abbrev pub remainder_of : Bool → ℕ → ℕ → ℕ
-remainder_of signed a b =
-    if signed then cast_unsigned w64 (int_rem (cast_signed w64 a) (cast_signed w64 b)) else a % b
-
-abbrev pub left_of : ℕ → ℕ → ℕ
-left_of a count = (a * 2 ^ count) % 2 ^ 64
-
--- with copies of the sign, or with zeros
-abbrev pub right_of : Bool → ℕ → ℕ → ℕ
-right_of signed a count =
-    if signed then cast_unsigned w64 (int_shr (cast_signed w64 a) count) else a / 2 ^ count
-
--- an operator on words, signed or not
+-- an operator on words, signed or not; division cuts toward zero
 abbrev pub operate : ArithmeticOperator → Bool → ℕ → ℕ → ℕ
-operate Multiply signed a b = product_of a b
-operate Divide signed a b = quotient_of signed a b
-operate Remainder signed a b = remainder_of signed a b
+operate Multiply signed a b = (a * b) % 2 ^ 64
+operate Divide signed a b = if signed then on_signed int_div a b else a / b
+operate Remainder signed a b = if signed then on_signed int_rem a b else a % b
 operate Add signed a b = sum_of a b
 operate Subtract signed a b = difference_of a b
 operate BitAnd signed a b = bit_and a b
 operate BitXor signed a b = bit_xor a b
 operate BitOr signed a b = bit_or a b
+
+-- a shift of a word: to the right with copies of the sign, or with zeros
+abbrev pub shift_result : ShiftOperator → Bool → ℕ → ℕ → ℕ
+shift_result Left signed a count = (a * 2 ^ count) % 2 ^ 64
+shift_result Right signed a count =
+    if signed then cast_unsigned w64 (int_shr (cast_signed w64 a) count) else a / 2 ^ count
 
 -- ---- the operators
 
@@ -71,10 +61,6 @@ divides op = false
 abbrev pub binary_of : ArithmeticOperator → IntType → ℕ → ℕ → Result ℕ OutOfZero
 binary_of op t a b =
     if divides op && (b == 0) then Err (record {}) else Ok (narrow t (operate op t.signed a b))
-
-abbrev pub shift_result : ShiftOperator → Bool → ℕ → ℕ → ℕ
-shift_result Left signed a count = left_of a count
-shift_result Right signed a count = right_of signed a count
 
 -- the count is taken modulo the width
 abbrev pub shift_of : ShiftOperator → IntType → ℕ → ℕ → ℕ

@@ -2,7 +2,7 @@
 
 ghost use Rattle.std.specs.Prelude.{◌≡◌, ◌≢◌, ◌↔◌, true, IfOk, IsErr};
 ghost use Rattle.d_values.specs.Numbers.{number_of, wrap, whole_of};
-ghost use Rattle.d_values.specs.Words.{divides, operate, quotient_of, remainder_of, binary_of};
+ghost use Rattle.d_values.specs.Words.{divides, operate, binary_of};
 
 use crate::int_type::IntType;
 use crate::operators::ArithmeticOperator;
@@ -63,7 +63,7 @@ fn operate(op: ArithmeticOperator, signed: bool, a: u64, b: u64) -> u64
 // Cut toward zero.
 fn quotient(signed: bool, a: u64, b: u64) -> u64
     requires { b ≢ 0 }
-    ensures { result ≡ quotient_of signed a b }
+    ensures { result ≡ operate ArithmeticOperator.Divide signed a b }
 {
     if signed {
         a.cast_signed()
@@ -77,7 +77,7 @@ fn quotient(signed: bool, a: u64, b: u64) -> u64
 // What is left of a division that cuts toward zero.
 fn remainder(signed: bool, a: u64, b: u64) -> u64
     requires { b ≢ 0 }
-    ensures { result ≡ remainder_of signed a b }
+    ensures { result ≡ operate ArithmeticOperator.Remainder signed a b }
 {
     if signed {
         a.cast_signed()

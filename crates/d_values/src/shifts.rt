@@ -3,7 +3,7 @@
 ghost use Rattle.std.specs.Prelude.{◌≡◌, ◌<◌, ◌%◌};
 ghost use Rattle.d_values.specs.Numbers.{number_of, modulo, wrap, whole_shift_of};
 ghost use Rattle.d_values.specs.{Vocabulary.IntType};
-ghost use Rattle.d_values.specs.Words.{shift_result, right_of, shift_of};
+ghost use Rattle.d_values.specs.Words.{shift_result, shift_of};
 
 use crate::int_type::IntType;
 use crate::operators::ShiftOperator;
@@ -44,7 +44,7 @@ fn shift_word(op: ShiftOperator, signed: bool, a: u64, count: u32) -> u64
 // To the right, with copies of the sign or with zeros.
 fn shift_word_right(signed: bool, a: u64, count: u32) -> u64
     requires { count < 64 }
-    ensures { result ≡ right_of signed a count }
+    ensures { result ≡ shift_result ShiftOperator.Right signed a count }
 {
     if signed {
         (a.cast_signed() >> count).cast_unsigned()

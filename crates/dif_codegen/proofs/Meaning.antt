@@ -18,7 +18,7 @@ use Rattle.d_values.specs.Operators.{holds_of}
 use Rattle.d_values.specs.Types.{INT64, UINT64}
 use Rattle.d_values.specs.Texts.{text_cmp}
 use Rattle.d_values.specs.Widths.{is_width}
-use Rattle.d_values.specs.Words.{narrow, operate, divides, order_of, shift_of, left_of, right_of}
+use Rattle.d_values.specs.Words.{narrow, operate, divides, order_of, shift_of, shift_result}
 use Rattle.d_values.specs.declared.operators.ShiftOperator.{ShiftOperator}
 use Rattle.d_values.specs.declared.operators.ShiftOperator.TheVariants as sh
 use Rattle.d_values.specs.declared.int_type.IntType.{IntType}
@@ -118,25 +118,25 @@ pub record Shifts (o : ShiftOperator) (t : IntType) (x y : ℕ) : Type 0 where
 
 pub shifts_as : (o : ShiftOperator) (t : IntType) (x y : ℕ) → Shifts o t x y
 shifts_as sh.Left t x y = record {
-  word = narrow UINT64 (left_of x (y % t.width % 64));
+  word = narrow UINT64 (shift_result sh.Left t.signed x (y % t.width % 64));
   is = refl;
-  same = unsigned_again t (left_of x (y % t.width % 64)) ∙ ap (λ c. narrow t (left_of x c)) (count_kept t.width y t.known);
-  small = unsigned_small (left_of x (y % t.width % 64));
+  same = unsigned_again t (shift_result sh.Left t.signed x (y % t.width % 64)) ∙ ap (λ c. narrow t (shift_result sh.Left t.signed x c)) (count_kept t.width y t.known);
+  small = unsigned_small (shift_result sh.Left t.signed x (y % t.width % 64));
 }
 shifts_as sh.Right t x y = by t.signed refl
   where
     by : (s : Bool) → t.signed ≡ s → Shifts sh.Right t x y
     by true e = record {
-      word = narrow INT64 (right_of true x (y % t.width % 64));
+      word = narrow INT64 (shift_result sh.Right true x (y % t.width % 64));
       is = ap (λ s. result_of (shift_right s) x (y % t.width)) e;
-      same = signed_again t (right_of true x (y % t.width % 64)) ∙ ap (λ c. narrow t (right_of true x c)) (count_kept t.width y t.known) ∙ ap (λ s. narrow t (right_of s x (y % t.width))) (sym e);
-      small = signed_small (right_of true x (y % t.width % 64));
+      same = signed_again t (shift_result sh.Right true x (y % t.width % 64)) ∙ ap (λ c. narrow t (shift_result sh.Right true x c)) (count_kept t.width y t.known) ∙ ap (λ s. narrow t (shift_result sh.Right s x (y % t.width))) (sym e);
+      small = signed_small (shift_result sh.Right true x (y % t.width % 64));
     }
     by false e = record {
-      word = narrow UINT64 (right_of false x (y % t.width % 64));
+      word = narrow UINT64 (shift_result sh.Right false x (y % t.width % 64));
       is = ap (λ s. result_of (shift_right s) x (y % t.width)) e;
-      same = unsigned_again t (right_of false x (y % t.width % 64)) ∙ ap (λ c. narrow t (right_of false x c)) (count_kept t.width y t.known) ∙ ap (λ s. narrow t (right_of s x (y % t.width))) (sym e);
-      small = unsigned_small (right_of false x (y % t.width % 64));
+      same = unsigned_again t (shift_result sh.Right false x (y % t.width % 64)) ∙ ap (λ c. narrow t (shift_result sh.Right false x c)) (count_kept t.width y t.known) ∙ ap (λ s. narrow t (shift_result sh.Right s x (y % t.width))) (sym e);
+      small = unsigned_small (shift_result sh.Right false x (y % t.width % 64));
     }
 
 -- ---- comparisons

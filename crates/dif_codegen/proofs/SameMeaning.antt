@@ -1,19 +1,16 @@
 -- What compiled clauses mean is what the clauses mean.
-use Rattle.std.specs.Prelude.{◌≡◌, ℕ, zero, suc, ◌%◌, false, List, [], ◌∷◌, map, Option, Some, None}
+use Rattle.std.specs.Prelude.{◌≡◌, ℕ, ◌%◌, List, [], ◌∷◌, map, Option, Some, None}
 use Rattle.std.specs.Int.{cast_signed, w64}
 use Rattle.std.proofs.Common.{refl, ap, ◌∙◌}
 use Rattle.d_values.specs.declared.int_type.DType.{DType}
 use Rattle.d_values.specs.declared.value.Value.{Value}
 use Rattle.firings.specs.declared.firing.Firing.{Firing}
-use Rattle.d_types.specs.declared.effect.Effect.{Effect}
 use Rattle.d_types.specs.declared.effect.Effect.TheVariants as ef
 use Rattle.d_types.specs.Clauses as trees
-use Rattle.d_types.specs.Clauses.{by_trees, effect_by, fault_line, effect_then}
-use Rattle.d_types.specs.Clauses.{argument_by, where_predicate, run_result}
-use Rattle.d_types.specs.Clauses.{run_with, Ran, run_by, run_of, statements_by}
-use Rattle.d_types.specs.Clauses.{where_true}
-use Rattle.d_types.specs.Expressions.{Outcome, Has, Faults, with, number_outcome, eval, keys_of}
-use Rattle.d_types.specs.Expressions.{part_of}
+use Rattle.d_types.specs.Clauses.{Made, and_then, argument_by, by_trees, effect_by, effect_result}
+use Rattle.d_types.specs.Clauses.{fault_line, go_on, nothing_made, run_by, run_of, statements_made}
+use Rattle.d_types.specs.Expressions.{Outcome, Has, Faults, with, number_outcome, at_zero}
+use Rattle.d_types.specs.Expressions.{eval, keys_of, part_of}
 use Rattle.d_types.specs.Fitting.{FitsRegisters}
 use Rattle.d_types.specs.Held.{AreConsistent, AreTyped, EndsTyped, HasTypedBuiltIns, IsConsistent}
 use Rattle.d_types.specs.Held.{IsOf}
@@ -24,14 +21,14 @@ use Rattle.d_types.specs.Typed.{Action, Aggregate, ClauseMeant, Evaluate, Exit, 
 use Rattle.d_types.specs.Typed.{Typeds, end, more, type_of}
 use Rattle.d_types.specs.Wholes.{ActionIs, ActionsAre, AnyIs, ClauseIs, EachIs}
 use Rattle.d_types.proofs.Holding.{eval_is, keys_are}
-use Rattle.d_types.proofs.HoldingRuns.{run_kept}
+use Rattle.d_types.proofs.HoldingRuns.{effect_kept, effect_leaves}
 use Rattle.dif_codegen.specs.Meaning.{by_objects, key_of_objects, run_code, value_of}
 use Rattle.dif_codegen.specs.Meaning.{values_of_objects}
 use Rattle.dif_codegen.specs.Steps.Programs.{compiled_objects, optional_object, compiled_object}
 use Rattle.dif_codegen.specs.Steps.Programs.{compiled_action, compiled_clause}
 use Rattle.dif_codegen.proofs.Compiled.{computes, is_returning}
 use Rattle.dif_codegen.proofs.Ended.{value_is}
-use Rattle.d_types.proofs.TreeRuns.{argument_value, effect_of, statements_of}
+use Rattle.d_types.proofs.TreeRuns.{argument_value, effect_of}
 
 module _ (slots : Slots) (f : Firing) (fit : HasTypedBuiltIns f) where
   -- a run of an expression's object comes to what the expression means
@@ -85,44 +82,35 @@ module _ (slots : Slots) (f : Firing) (fit : HasTypedBuiltIns f) where
       ap (λ o. with o (λ key vars. with (argument_by (by_objects f) (optional_object argument) vars) (λ z. Has (ef.Adds index key z)))) (key_same keys vars is.0 few.0 good)
       ∙ on_same (λ key. Unit {0}) (keys_of f keys vars) _ _ (keys_are slots f fit keys vars (all_are keys is.0) good) (λ key late well. ap (λ o. with o (λ z. Has (ef.Adds index key z))) (given_same argument late is.1 few.1 well))
 
-  -- a statement leaves variables that hold values of their types, as a clause of it alone does
-  one_kept : (a : Action) (vars : Variables) → ActionIs (IsConsistent slots) a → AreTyped slots vars
-      → AreTyped slots (effect_then (effect_of f a vars) (λ late. run_with [] false late)).variables
-  one_kept a vars is good = run_kept slots f fit 0 (record { descriptions = []; predicate = None; statements = a ∷ [] }) vars (tt, (is, tt)) good
+  went_same : {A : Type 0} (line : List ℕ) (before : Made) (o : Outcome A) (go on : A → Variables → Made) → EndsTyped slots (λ x. Unit {0}) o
+      → ((x : A) (late : Variables) → AreTyped slots late → go x late ≡ on x late) → go_on line before o go ≡ go_on line before o on
+  went_same line before (Has x late) go on good rest = rest x late good.1
+  went_same line before (Faults late) go on good rest = refl
 
-  followed_same : (o : Outcome Effect) (go on : Variables → Ran) → AreTyped slots (effect_then o (λ late. run_with [] false late)).variables
-      → ((late : Variables) → AreTyped slots late → go late ≡ on late) → effect_then o go ≡ effect_then o on
-  followed_same (Has effect late) go on good rest = ap (λ r. run_with (effect ∷ r.effects) r.faulted r.variables) (rest late good)
-  followed_same (Faults late) go on good rest = refl
-
-  statements_same : (all : List Action) (vars : Variables) → ActionsAre (IsConsistent slots) all → ActionsAre FitsRegisters all → AreTyped slots vars
-      → statements_by (by_objects f) (map compiled_action all) vars ≡ statements_of f all vars
-  statements_same [] vars is few good = refl
-  statements_same (a ∷ rest) vars is few good =
-      ap (λ o. effect_then o (statements_by (by_objects f) (map compiled_action rest))) (effect_same a vars is.0 few.0 good)
-      ∙ followed_same (effect_of f a vars) _ _ (one_kept a vars is.0 good) (λ late well. statements_same rest late is.1 few.1 well)
-
-  where_same : (o : Outcome ℕ) (go on : Variables → Ran) → EndsTyped slots (λ n. Unit {0}) o
-      → ((late : Variables) → AreTyped slots late → go late ≡ on late) → where_true o go ≡ where_true o on
-  where_same (Has zero late) go on good rest = refl
-  where_same (Has (suc n) late) go on good rest = rest late good.1
-  where_same (Faults late) go on good rest = refl
+  statements_same : (line : List ℕ) (all : List Action) (before : Made) → ActionsAre (IsConsistent slots) all → ActionsAre FitsRegisters all → AreTyped slots before.variables
+      → statements_made (by_objects f) line (map compiled_action all) before ≡ statements_made (by_trees f) line all before
+  statements_same line [] before is few good = refl
+  statements_same line (a ∷ rest) before is few good =
+      ap (λ o. go_on line before o (λ effect vars. statements_made (by_objects f) line (map compiled_action rest) (and_then before (effect_result effect vars))))
+      (effect_same a before.variables is.0 few.0 good)
+      ∙ went_same line before (effect_of f a before.variables) _ _ (effect_kept slots f fit a before.variables is.0 good)
+      (λ effect late well. statements_same line rest (and_then before (effect_result effect late)) is.1 few.1 (effect_leaves slots effect late well))
 
   number_kept : (o : Outcome Value) (t : DType) → EndsTyped slots (IsOf t) o → EndsTyped slots (λ n. Unit {0}) (number_outcome o)
   number_kept (Has x late) t good = (tt, good.1)
   number_kept (Faults late) t good = good
 
-  guarded_same : (predicate : Option Typed) (go on : Variables → Ran) (vars : Variables) → AnyIs (IsConsistent slots) predicate → AnyIs FitsRegisters predicate → AreTyped slots vars
-      → ((late : Variables) → AreTyped slots late → go late ≡ on late)
-      → where_predicate (by_objects f) (optional_object predicate) go vars ≡ where_predicate (by_trees f) predicate on vars
-  guarded_same None go on vars is few good rest = rest vars good
-  guarded_same (Some e) go on vars is few good rest =
-      ap (λ o. where_true o go) (number_same e vars is few good)
-      ∙ where_same (number_outcome (eval f e vars)) go on (number_kept (eval f e vars) (type_of e) (eval_is slots f fit e vars is good)) rest
+  by_same : (line : List ℕ) (predicate : Option Typed) (all : List Action) (vars : Variables) → AnyIs (IsConsistent slots) predicate → AnyIs FitsRegisters predicate
+      → ActionsAre (IsConsistent slots) all → ActionsAre FitsRegisters all → AreTyped slots vars
+      → run_by (by_objects f) line (optional_object predicate) (map compiled_action all) vars ≡ run_by (by_trees f) line predicate all vars
+  by_same line None all vars is few are small good = statements_same line all (nothing_made vars) are small good
+  by_same line (Some e) all vars is few are small good =
+      ap (λ o. go_on line (nothing_made vars) o (λ word vars. at_zero word (nothing_made vars) (statements_made (by_objects f) line (map compiled_action all) (nothing_made vars))))
+      (number_same e vars is few good)
+      ∙ went_same line (nothing_made vars) (number_outcome (eval f e vars)) _ _ (number_kept (eval f e vars) (type_of e) (eval_is slots f fit e vars is good))
+      (λ word late well. ap (at_zero word (nothing_made late)) (statements_same line all (nothing_made late) are small well))
 
   -- a run of a compiled clause makes what a run of the clause makes
   pub run_same : (index : ℕ) (c : ClauseMeant) (vars : Variables) → ClauseIs (IsConsistent slots) c → ClauseIs FitsRegisters c → AreTyped slots vars
       → run_code f index (compiled_clause c) vars ≡ run_of f index c vars
-  run_same index c vars is few good =
-      ap (run_result (fault_line f.number index))
-      (guarded_same c.predicate _ _ vars is.0 few.0 good (λ late well. statements_same c.statements late is.1 few.1 well))
+  run_same index c vars is few good = by_same (fault_line f.number index) c.predicate c.statements vars is.0 few.0 is.1 few.1 good

@@ -8,7 +8,7 @@ use Rattle.firings.specs.declared.firing.Firing.{Firing}
 use Rattle.firings.specs.declared.limits.TheConstants.{MAX_TEXT}
 use Rattle.firings.specs.declared.limits.TheConstants.{MAX_ROWS}
 
--- its index among the firings
+-- its place among the firings
 abbrev pub number_of : Firing → ℕ
 number_of f = f.number
 

@@ -33,7 +33,7 @@ given_in args g = take (count_of g) (drop (first_of g) args)
 abbrev pub IsGivenIn : List ℤ → Given → Type 0
 IsGivenIn args g = first_of g + count_of g ≤ length args
 
--- what has no index
+-- what stands for an owner or a probe that there is none of at an index
 abbrev pub no_owner : Owner
 no_owner = record { thread = pos 0; pid = pos 0; execname = [] }
 

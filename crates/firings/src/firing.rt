@@ -9,7 +9,7 @@ use std::marker::Model;
 /// One firing of a probe, as a row of a trace records it. Its texts and arguments are borrowed.
 #[derive(Debug, Drop)]
 pub struct Firing<'a> {
-    /// Its index among all firings of the trace.
+    /// Its place among all firings of the trace.
     pub number: u64,
     /// The processor.
     pub cpu: i32,

@@ -37,7 +37,7 @@ impl Given {
         (self.packed % 16) as usize
     }
 
-    /// As many arguments, `shift` indices later.
+    /// As many arguments, with the index of the first `shift` higher.
     pub fn moved(self, shift: u32) -> Given
         requires { first_of self + shift < 2 ^ 28 }
         ensures { result ≡ moved_given shift self }

@@ -13,8 +13,8 @@ const HERE_NUMBER: i64 = -100;
 // A number that strace shows by a name.
 const NULL: &[u8] = b"NULL";
 
-/// The arguments of a call that shows numbers alone, and what comes after the bracket; nothing
-/// if that is missing.
+/// The arguments of a call that shows numbers alone, and what comes after the bracket, if there
+/// is one.
 pub(crate) fn numbers(shown: &[u8]) -> Option<(Arguments, Option<&[u8]>)> {
     let mut arguments = [None; ARGUMENTS];
     let mut rest = shown;

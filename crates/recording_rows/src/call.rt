@@ -14,7 +14,8 @@ const MAX_DURATION: usize = 9;
 /// What a call returned, and how long it took.
 #[derive(Clone, Copy)]
 pub(crate) struct Outcome {
-    /// What it returned, and the error's number or the same; None if it doesn't return.
+    /// What it returned, and then its error's number or, if there is none, the same again. None if
+    /// it doesn't return.
     pub(crate) returned: Option<(i64, i64)>,
     /// Nanoseconds, if strace tells.
     pub(crate) took: Option<u64>,

@@ -8,11 +8,12 @@ use Rattle.d_values.specs.declared.key.KeyPart.{KeyPart}
 use Rattle.d_types.specs.declared.effect.Effect.{Effect}
 use Rattle.d_types.specs.declared.effect.Effect.TheVariants as ef
 use Rattle.d_types.specs.Expressions.{Outcome, Has, Faults, with}
-use Rattle.d_types.specs.Clauses.{Made, Ran, run_result, run_with, effect_then, texts_in}
-use Rattle.d_types.specs.Clauses.{contributions_in, exit_in, and_then}
+use Rattle.d_types.specs.Clauses.{Made, and_then}
 use Rattle.d_types.specs.Storage.{Variables}
 use Rattle.replay_core.specs.declared.evaluation.fault.EvalFault.TheVariants as fault
 use Rattle.replay_core.specs.Effects.{NotesRun}
+use Rattle.replay_core.specs.Steps.EffectRuns.{Ran, contributions_in, effect_then, exit_in}
+use Rattle.replay_core.specs.Steps.EffectRuns.{run_result, run_with, texts_in}
 use Rattle.replay_core.specs.Steps.Effects.{effects_result, NotesEffect, Performs}
 use Rattle.replay_core.specs.Lanes.{Notes}
 use Rattle.replay_core.specs.Pieces.{PieceSeen}

@@ -1,8 +1,7 @@
 -- Trees are run as what they stand for.
 use Rattle.std.specs.Prelude.{◌≡◌, ℕ, List, [], ◌∷◌, map, max, Option, None, Some}
-use Rattle.std.proofs.Common.{refl, ap, ◌∙◌}
-use Rattle.d_types.specs.Clauses.{by_trees, effect_by, effect_then, where_predicate, run_result}
-use Rattle.d_types.specs.Clauses.{run_by, statements_by}
+use Rattle.std.proofs.Common.{refl, sym, ap, ◌∙◌}
+use Rattle.d_types.specs.Clauses.{by_trees, effect_by, run_by}
 use Rattle.d_types.specs.Storage.{Variables}
 use Rattle.d_types.specs.Typed.{action_of, actions_of, typed_argument}
 use Rattle.d_types.specs.declared.typed.TypedExpr.{TypedExpr}
@@ -11,6 +10,9 @@ use Rattle.d_types.specs.declared.typed.TypedStmt.TheVariants as s
 use Rattle.firings.specs.declared.firing.Firing.{Firing}
 use Rattle.replay_core.specs.Bounds.{index_in, indices_among}
 use Rattle.replay_core.specs.Forms.{by_expressions, statement_form}
+use Rattle.replay_core.specs.Steps.EffectRuns.{effect_then, ran_by, run_result, statements_by}
+use Rattle.replay_core.specs.Steps.EffectRuns.{where_predicate}
+use Rattle.replay_core.proofs.EffectRuns.{run_by_is}
 
 index_same : (x : TypedStmt) → index_in (statement_form x) ≡ index_in (action_of x)
 index_same (s.Evaluate e) = refl
@@ -42,7 +44,9 @@ module _ (f : Firing) where
       ∙ ap (effect_then (effect_by (by_trees f) (action_of x) vars)) (λ i v. statements_same rest v i)
 
   pub run_same : (line : List ℕ) (predicate : Option TypedExpr) (all : List TypedStmt) (vars : Variables)
-      → run_by (by_expressions f) line predicate (map statement_form all) vars ≡ run_by (by_trees f) line (typed_argument predicate) (actions_of all) vars
-  run_same line None all vars = ap (run_result line) (statements_same all vars)
-  run_same line (Some e) all vars =
-      ap (λ go. run_result line (where_predicate (by_expressions f) (Some e) go vars)) (λ i v. statements_same all v i)
+      → ran_by (by_expressions f) line predicate (map statement_form all) vars ≡ run_by (by_trees f) line (typed_argument predicate) (actions_of all) vars
+  run_same line predicate all vars = same predicate ∙ sym (run_by_is (by_trees f) line (typed_argument predicate) (actions_of all) vars)
+    where
+      same : (p : Option TypedExpr) → ran_by (by_expressions f) line p (map statement_form all) vars ≡ ran_by (by_trees f) line (typed_argument p) (actions_of all) vars
+      same None = ap (run_result line) (statements_same all vars)
+      same (Some e) = ap (λ go. run_result line (where_predicate (by_expressions f) (Some e) go vars)) (λ i v. statements_same all v i)

@@ -6,6 +6,7 @@ pub mod Noting
 pub mod NotedLemmas
 pub mod Turning
 pub mod EffectLemmas
+pub mod EffectRuns
 pub mod StateLemmas
 pub mod SelectionLemmas
 pub mod ThreadLemmas

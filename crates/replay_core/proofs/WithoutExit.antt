@@ -11,8 +11,8 @@ use Rattle.d_types.specs.Typed.{Typed, Typeds, ActionOf, Action, Evaluate, Trace
 use Rattle.d_types.specs.Typed.{Aggregate, ClauseMeant, ScriptMeant, has_exit, is_exit}
 use Rattle.d_types.specs.Storage.{Variables}
 use Rattle.d_types.specs.Expressions.{Outcome, Has, Faults, with, number_outcome}
-use Rattle.d_types.specs.Clauses.{Evaluation, Made, Ran, by_trees, effect_by, exit_in, effect_then}
-use Rattle.d_types.specs.Clauses.{argument_by, where_predicate, run_of, statements_by, where_true}
+use Rattle.d_types.specs.Clauses.{Evaluation, Made, argument_by, by_trees, effect_by, fault_line}
+use Rattle.d_types.specs.Clauses.{run_of}
 use Rattle.firings.specs.declared.firing.Firing.{Firing}
 use Rattle.firings.specs.Ends.{begin_of, end_of, with_ends}
 use Rattle.firings.specs.Firings.{IsTrace}
@@ -20,6 +20,9 @@ use Rattle.replay_core.specs.Exit.{exit_status, firings_over, history_over, up_t
 use Rattle.replay_core.specs.Meaning.{Threads, clauses_for, exit_of, history, in_turn}
 use Rattle.replay_core.specs.Meaning.{firing_result, threads_after, blank_threads}
 use Rattle.replay_core.specs.Patterns.{probe_of, selects}
+use Rattle.replay_core.specs.Steps.EffectRuns.{Ran, effect_then, exit_in, statements_by}
+use Rattle.replay_core.specs.Steps.EffectRuns.{where_predicate, where_true}
+use Rattle.replay_core.proofs.EffectRuns.{run_by_is}
 use Rattle.replay_core.proofs.ExitLemmas.{firings_are, until_exit}
 
 either : (a b : Bool) → (a || b) ≡ false → (a ≡ false) × (b ≡ false)
@@ -100,7 +103,8 @@ turn_goes : (f : Firing) (cs : List (ℕ × ClauseMeant)) (vars : Variables) →
 turn_goes f [] vars all = refl
 turn_goes f (c ∷ cs) vars all =
     let first = run_of f c.0 c.1 vars in
-    let none : first.exit ≡ None = guarded_goes (by_trees f) c.1.predicate c.1.statements vars all.0 in
+    let noted = run_by_is (by_trees f) (fault_line f.number c.0) c.1.predicate c.1.statements vars in
+    let none : first.exit ≡ None = ap (λ (m : Made). m.exit) noted ∙ guarded_goes (by_trees f) c.1.predicate c.1.statements vars all.0 in
     ap (λ o. option_or o (in_turn f cs first.variables).exit) none ∙ turn_goes f cs first.variables all.1
 
 -- ---- a run

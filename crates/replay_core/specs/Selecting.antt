@@ -11,8 +11,8 @@ use Rattle.replay_core.specs.Vocabulary.{Firing, MAX_BYTES, ScriptMeant, with_en
 abbrev pub selected_for : ScriptMeant → Firing → List ℕ
 selected_for m f = indices_for (probe_of f) 0 (map (λ c. c.descriptions) m.clauses)
 
--- these are the indices of the script's clauses for each firing of a run over the trace, or none are
--- given
+-- these are the indices of the script's clauses for each firing of a run over the trace, or none
+-- are given
 abbrev pub AreFor : List Firing → List (List ℕ) → ScriptMeant → Type 0
 AreFor trace selected m =
     (selected ≡ []) ⊎ (selected ≡ map (selected_for m) (with_ends trace trace))

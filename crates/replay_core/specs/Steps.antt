@@ -6,6 +6,7 @@ pub mod AtBoard
 pub mod Beginnings
 pub mod Caching
 pub mod Described
+pub mod EffectRuns
 pub mod Effects
 pub mod Evaluation
 pub mod Merging

@@ -112,7 +112,7 @@ fn put_label(out: &mut Vec<u8>, scale: Scale, bucket: u32) -> Result<(), AllocEr
     out.extend_from_slice(digits)
 }
 
-// Puts the bar of a count, which is a part of all arguments.
+// Puts the bar of a bucket that has `count` of all arguments.
 fn put_bar(out: &mut Vec<u8>, count: u64, all: u64) -> Result<(), AllocError>
     requires some { 0 < all }
     requires few { all ≤ 2 ^ 52 }

@@ -112,7 +112,7 @@ fn answers_in_two<R: AllocGlobal + Threads + Wait + Sync>(
     is_answer(rt.alloc(), &answer, &out, wanted)
 }
 
-// The first of these indices at which a bundle, cut there, shows something else.
+// The first of these positions at which a bundle, cut there, shows something else.
 fn first_wrong_cut<R: AllocGlobal + Threads + Wait + Sync>(
     rt: &R,
     bundle: &[u8],
@@ -129,7 +129,7 @@ fn first_wrong_cut<R: AllocGlobal + Threads + Wait + Sync>(
     Ok(None)
 }
 
-// The first index of all at which a bundle, cut there, shows something else.
+// The first position of all at which a bundle, cut there, shows something else.
 fn first_wrong_cut_of_all<R: AllocGlobal + Threads + Wait + Sync>(
     rt: &R,
     bundle: &[u8],

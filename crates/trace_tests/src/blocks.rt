@@ -186,7 +186,7 @@ fn drawn_traces_read_the_same_in_blocks_by_several(rt: HostRuntime) -> Result<()
     Ok(())
 }
 
-// The first index at which a trace that is cut in two is read otherwise.
+// The first position at which a trace, cut in two there, is read otherwise.
 fn first_other_cut<R: Threads>(rt: &R, alloc: Global, bytes: &[u8]) -> Option<usize> {
     for cut in 0..bytes.len() {
         let blocks = [&bytes[..cut], &bytes[cut..]];
@@ -197,7 +197,7 @@ fn first_other_cut<R: Threads>(rt: &R, alloc: Global, bytes: &[u8]) -> Option<us
     None
 }
 
-// The first index at which a trace of three pieces, cut in two, is read otherwise.
+// The first position at which a trace of three pieces, cut in two there, is read otherwise.
 fn first_other_cut_of<R: Threads>(
     rt: &R,
     alloc: Global,

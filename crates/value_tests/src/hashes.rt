@@ -44,7 +44,7 @@ fn sources_give_keys(rt: HostRuntime) {
     assert!(rt; given != drawn);
 }
 
-// Bytes that are divided into two writes at different indices, and other bytes in their place.
+// The same bytes, divided into two writes at different positions or written at once, and others.
 const DIFFERENT: [&[&[u8]]; 7] = [
     &[b"", b"sixteen bytes or"],
     &[b"sixteen ", b"bytes or"],

@@ -13,8 +13,8 @@ open_after t before = if opens t then suc before else if closes t then before - 
 abbrev pub row_with : TokenKind → ℕ → ℕ
 row_with t before = if ends_row t then 0 else suc before
 
--- at some token more are open, or more are in a row, than may be: the same as IsDeep, if none
--- are open before
+-- at some token more are open, or more are in a row, than may be; if none are open before, this is
+-- IsDeep
 unfoldable pub is_deep : ℕ → ℕ → List Token → Bool
 is_deep open_before row [] = false
 is_deep open_before row (t ∷ ts) =

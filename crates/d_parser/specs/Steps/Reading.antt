@@ -17,11 +17,6 @@ abbrev pub ◌>>=◌ : {A B : Type 0} → Option A → (A → Option B) → Opti
 None >>= f = None
 (Some x) >>= f = f x
 
--- only memory is a reason to fail
-abbrev pub OnlyMemory : {X : Type 0} → Result X ParseFault → Type 0
-OnlyMemory (Ok x) = Unit {0}
-OnlyMemory (Err e) = e ≡ ParseFault.Memory
-
 abbrev pub Reader : Type 0 → Type 0
 Reader A = List Token → Option (A × List Token)
 
@@ -186,7 +181,7 @@ module _ (down : Readers) where
   unary_by k (TokenKind.Mark mark) line ts = unary_at_mark mark line ts
   unary_by k other line ts = None
 
-  -- a unary expression, or if the level allows it an assignment
+  -- a unary expression or, if the level allows it, an assignment
   unfoldable pub unary : ℕ → Reader Tree
   unary k [] = None
   unary k (t ∷ ts) = unary_by k t.kind t.line ts

@@ -1,8 +1,11 @@
 -- A description as it is read: field by field from the left.
 use Rattle.std.specs.Prelude.{◌==◌, ℕ, zero, suc, if◌then◌else◌, List, [], ◌∷◌, Option, Some, None}
 use Rattle.d_parser.specs.Vocabulary.{Description}
-use Rattle.d_parser.specs.Script.{colon, is_ascii_digit}
+use Rattle.d_parser.specs.Script.{is_ascii_digit}
 pub use Rattle.std.specs.List.{list_all}
+
+abbrev pub colon : ℕ
+colon = 58
 
 abbrev pub description_with : (a b c d : List ℕ) → Description
 description_with a b c d = record { provider = a; «module» = b; function = c; name = d }

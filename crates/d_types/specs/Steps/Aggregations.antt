@@ -53,7 +53,7 @@ same (AggFn.Lquantize a) (AggFn.Lquantize b) =
     int_eq a.lower b.lower && int_eq a.upper b.upper && (a.step == b.step)
 same f g = false
 
--- the function is there, and the same
+-- a function is given, and it is the same as before
 abbrev pub is_again : Option AggFn → AggFn → Bool
 is_again None g = false
 is_again (Some f) g = same f g

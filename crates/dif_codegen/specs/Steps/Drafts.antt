@@ -3,7 +3,7 @@ use Rattle.std.specs.Prelude.{◌≡◌, ℕ, ◌+◌, ◌++◌, length, slice_s
 use Rattle.dif_codegen.specs.Vocabulary.{Condition, Ba, Branch, Difo}
 use Rattle.dif_codegen.specs.Steps.Pieces.{Place, Maker}
 
--- the index after all that was made so far
+-- the place after all that was made so far
 abbrev pub end_of_draft : Difo → Place
 end_of_draft d = record {
   at = length d.code.items;

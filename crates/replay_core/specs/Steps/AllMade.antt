@@ -5,7 +5,7 @@ use Rattle.d_types.specs.Storage.{Variables}
 use Rattle.d_types.specs.Typed.{ClauseMeant}
 use Rattle.firings.specs.declared.firing.Firing.{Firing}
 
--- a run of the clause that there is at an index
+-- a run of the clause at an index, if there is one
 abbrev pub run_at : Firing → ℕ → Option ClauseMeant → Variables → Made
 run_at f index None vars = nothing_made vars
 run_at f index (Some c) vars = run_of f (index + 1) c vars

@@ -2,8 +2,8 @@
 use Rattle.std.specs.Prelude.{◌≡◌, ◌+◌, ◌<◌, ◌≤◌, ◌^◌, ℕ, Bool, List, [], ◌∷◌, Result, Ok, Err}
 use Rattle.std.specs.Prelude.{is_some, length}
 use Rattle.replay_core.specs.Vocabulary.{Effect, Faults, Firing, Has, Made, Outcome, Variables}
-use Rattle.replay_core.specs.Vocabulary.{contributions_in, count_held, exit_in, functions_of}
-use Rattle.replay_core.specs.Vocabulary.{texts_in}
+use Rattle.replay_core.specs.Vocabulary.{count_held, functions_of}
+use Rattle.replay_core.specs.Steps.EffectRuns.{contributions_in, exit_in, texts_in}
 use Rattle.replay_core.specs.declared.{evaluation.fault.EvalFault.EvalFault}
 use Rattle.replay_core.specs.declared.{lanes.piece.Piece.Piece}
 use Rattle.replay_core.specs.declared.{lanes.state.State.State}

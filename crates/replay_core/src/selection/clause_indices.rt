@@ -73,7 +73,7 @@ impl ClauseIndices {
         self.repeats.is_empty()
     }
 
-    /// Whether these are the same.
+    /// Whether both are the same indices, each as often.
     pub(crate) fn is_same(&self, other: &ClauseIndices) -> bool
         ensures { result ≡ true → self.now ≡ other.now }
     {

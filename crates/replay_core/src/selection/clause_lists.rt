@@ -87,7 +87,7 @@ impl ClauseLists {
     }
 }
 
-// Whether this list is at an index.
+// Whether the list at an index is this one.
 fn is_at(lists: &[ClauseIndices], index: usize, list: &ClauseIndices) -> bool
     ensures { result ≡ true → slice_get lists.now index ≡ Some list.now }
 {

@@ -4,6 +4,7 @@ ghost use Rattle.std.specs.Prelude.{◌≡◌, ◌+◌, ◌≤◌, ◌^◌, IfOk
 ghost use Rattle.d_types.specs.Clauses as spec;
 ghost use Rattle.replay_core.specs.{Bounds.indices_among, Evaluation.Stays};
 ghost use Rattle.replay_core.specs.Effects.{HasTaken, IsNotedRun};
+ghost use Rattle.replay_core.specs.Steps.EffectRuns.{ran_by, run_result, statements_by};
 ghost use Rattle.replay_core.specs.Vocabulary.{count_held, functions_of};
 
 use crate::evaluation::EvalFault;
@@ -30,8 +31,8 @@ fn run_statements<X: Expression, S: Statement<X>>(
     ensures held { count_held piece.new.table ≤ count_held piece.old.table + length statements.now }
     ensures state { Stays state.old state.new }
     ensures run { IfOk result (IsNotedRun
-        (λ f vars. spec.run_result (spec.fault_line f.number index)
-        (spec.statements_by (X.by f) (map S.form statements.now) vars))
+        (λ f vars. run_result (spec.fault_line f.number index)
+        (statements_by (X.by f) (map S.form statements.now) vars))
         state.old state.new piece.old piece.new) }
 {
     let before = piece.events.len();
@@ -68,7 +69,7 @@ pub(crate) fn run_clause<X: Expression, S: Statement<X>>(
     ensures held { count_held piece.new.table ≤ count_held piece.old.table + length statements.now }
     ensures state { Stays state.old state.new }
     ensures run { IfOk result (IsNotedRun
-        (λ f. spec.run_by (X.by f) (spec.fault_line f.number index) predicate.now
+        (λ f. ran_by (X.by f) (spec.fault_line f.number index) predicate.now
         (map S.form statements.now)) state.old state.new piece.old piece.new) }
 {
     if let Some(predicate) = predicate {

@@ -12,9 +12,9 @@ returns-in_err-check_keys-in-None c =
     refused _ c.from_residual.result _ _ _ c.from_residual.ensures.1 k.1
     (slot_refused c.args.variable.space c.args.variable.line c.args.variable.name.now (rows_of_entries c.args.table.now.items) c.args.holds c.args.keys.now _ o k.0)
 
-pub returns-in_ok-check_keys-in-None : goal.returns-in_ok-check_keys-in-None
-returns-in_ok-check_keys-in-None c =
+pub returns-in_ok-slot-in-None : goal.returns-in_ok-slot-in-None
+returns-in_ok-slot-in-None c =
     let o : find c.args.variable.space c.args.variable.name.now (rows_of_entries c.args.table.now.items) ≡ None = cc in
     let h = check_passed _ _ _ (rw c.most_keys.ensures at c.in_ok-check_keys-in-None.ensures) in
-    passed_on c.add_entry.result _ _ _ _ (slot_new c.args.variable.space c.args.variable.line c.args.variable.name.now (rows_of_entries c.args.table.now.items) c.args.holds c.args.keys.now _ o h)
-    c.add_entry.ensures.slot c.add_entry.ensures.added c.add_entry.ensures.err
+    passed_on c.in_ok-slot-in-None.slot _ _ _ _ (slot_new c.args.variable.space c.args.variable.line c.args.variable.name.now (rows_of_entries c.args.table.now.items) c.args.holds c.args.keys.now _ o h)
+    c.in_ok-slot-in-None.ensures.slot c.in_ok-slot-in-None.ensures.added

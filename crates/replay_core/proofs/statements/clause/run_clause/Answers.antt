@@ -1,9 +1,10 @@
 use Rattle.std.specs.Prelude.{◌≡◌, ◌∷◌, ◌++◌, [], false, length, map, take, Err}
 use Rattle.std.proofs.Common.{refl, rules, subst, sym, ap, ◌∙◌}
 use Rattle.d_types.specs.Expressions.{number_outcome}
-use Rattle.d_types.specs.Clauses.{fault_line, where_predicate, run_result, statements_by}
-use Rattle.d_types.specs.Clauses.{where_true}
+use Rattle.d_types.specs.Clauses.{fault_line}
 use Rattle.replay_core.specs.Effects.{NotesRun}
+use Rattle.replay_core.specs.Steps.EffectRuns.{run_result, statements_by, where_predicate}
+use Rattle.replay_core.specs.Steps.EffectRuns.{where_true}
 use Rattle.replay_core.specs.Evaluation.{Returns, variables_in}
 use Rattle.replay_core.specs.Seen.{piece_seen}
 use Rattle.replay_core.proofs.EffectLemmas.{predicate_faults}

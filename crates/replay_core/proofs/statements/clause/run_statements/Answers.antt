@@ -3,8 +3,9 @@ use Rattle.std.proofs.Common.{refl, rules, arith, add-one, drop, subst, sym, ap,
 use Rattle.std.proofs.Math.Seq.{drop-cons}
 use Rattle.std.proofs.lemmas.List.{drop_all}
 use Rattle.aggregations.specs.Table.{functions_of}
-use Rattle.d_types.specs.Clauses.{effect_by, fault_line, effect_then, statements_by}
+use Rattle.d_types.specs.Clauses.{effect_by, fault_line}
 use Rattle.replay_core.specs.Bounds.{index_in}
+use Rattle.replay_core.specs.Steps.EffectRuns.{effect_then, statements_by}
 use Rattle.replay_core.specs.Steps.Effects.{Performs}
 use Rattle.replay_core.specs.Evaluation.{variables_in}
 use Rattle.replay_core.specs.Seen.{piece_seen}

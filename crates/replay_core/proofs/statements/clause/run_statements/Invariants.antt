@@ -1,8 +1,8 @@
 use Rattle.std.proofs.Common.{◌≡◌, ◌+◌, ◌≤◌, drop, map}
 use Rattle.aggregations.specs.Table.{count_held, functions_of}
-use Rattle.d_types.specs.Clauses.{statements_by}
 use Rattle.replay_core.specs.Evaluation.{Stays, variables_in}
 use Rattle.replay_core.specs.Seen.{piece_seen}
+use Rattle.replay_core.specs.Steps.EffectRuns.{statements_by}
 use Rattle.replay_core.proofs.EffectLemmas.{SoFar}
 use Rattle.replay_core.proofs.statements.clause.run_statements.Given as goal
 

@@ -2,13 +2,15 @@ use Rattle.std.specs.Prelude.{◌≤◌, length, map}
 use Rattle.std.proofs.Common.{arith, subst, sym, ap, ◌∙◌}
 use Rattle.std.proofs.lemmas.Result.{IfOk-weaker}
 use Rattle.aggregations.specs.Table.{functions_of}
-use Rattle.d_types.specs.Clauses.{fault_line, run_by}
+use Rattle.d_types.specs.Clauses.{fault_line}
 use Rattle.dif_codegen.specs.Meaning.{by_objects}
 use Rattle.dif_codegen.specs.Programs.{action_code}
 use Rattle.replay_core.specs.Bounds.{indices_among}
 use Rattle.replay_core.specs.Effects.{NotesRun}
 use Rattle.replay_core.specs.Evaluation.{variables_in}
 use Rattle.replay_core.specs.Seen.{piece_seen}
+use Rattle.replay_core.specs.Steps.EffectRuns.{ran_by}
+use Rattle.replay_core.proofs.EffectRuns.{run_by_is}
 use Rattle.replay_core.proofs.lanes.clause.CompiledClauseClause.run.Goals as goal
 
 pub run_clause-requires-clause-indices : goal.run_clause-requires-clause-indices
@@ -33,9 +35,11 @@ returns-clause-run c =
     let line = fault_line f.number c.args.index in
     let vars = variables_in c.args.state.now in
     let left = variables_in c.run_clause.new.state in
-    let same = ap (λ l. run_by (by_objects f) line c.args.self.now.predicate (map action_code l) vars) c.deref.ensures.value in
+    let by = by_objects f in
+    let same = ap (λ l. ran_by by line c.args.self.now.predicate (map action_code l) vars) c.deref.ensures.value
+    ∙ sym (run_by_is by line c.args.self.now.predicate (map action_code c.args.self.now.actions.items) vars) in
     IfOk-weaker c.run_clause.result
-    (λ exits. NotesRun f.number (run_by (by_objects f) line c.args.self.now.predicate (map action_code c.deref.result.now) vars) (piece_seen c.args.piece.now) (piece_seen c.run_clause.new.piece) left exits)
+    (λ exits. NotesRun f.number (ran_by (by_objects f) line c.args.self.now.predicate (map action_code c.deref.result.now) vars) (piece_seen c.args.piece.now) (piece_seen c.run_clause.new.piece) left exits)
     _ (λ exits noted slots meant does fit good.
     subst (λ m. NotesRun f.number m (piece_seen c.args.piece.now) (piece_seen c.run_clause.new.piece) left exits)
     (same ∙ does.runs f c.args.index vars fit good) noted) c.run_clause.ensures.run
