@@ -1,4 +1,4 @@
-//! An aggregation's index in a table.
+//! An aggregation's slot in a table.
 
 ghost use Rattle.std.specs.Prelude.{◌≡◌, ◌+◌, ◌<◌, ◌≤◌, ◌^◌, [], map, IfOk, IfSome, IsNone, OnOk};
 ghost use Rattle.std.specs.Prelude.{OnErr};

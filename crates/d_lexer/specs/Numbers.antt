@@ -2,7 +2,8 @@
 -- Source: Dynamic Tracing Guide, "Constants".
 use Rattle.std.specs.Prelude.{◌≡◌, ◌≢◌, ℕ, ◌^◌, ◌<◌, true, Option, Some, List, [], ◌∷◌, ◌++◌, map}
 use Rattle.std.specs.Prelude.{codes}
-use Rattle.std.specs.{Map.lookup, Str.bytes_eq, Str.byte, Str.Parse.AllDigits, Str.Parse.digits_value}
+use Rattle.std.specs.{Map.lookup, Str.bytes_eq, Str.byte}
+use Rattle.std.specs.Str.Parse.{AllDigits, digits_value}
 use Rattle.std.specs.Char.{to_ascii_lowercase, eq_ignore_ascii_case}
 use Rattle.d_lexer.specs.declared.token.Suffix.{Suffix}
 use Rattle.d_lexer.specs.declared.token.Suffix.TheVariants.{Absent, Unsigned, Long, UnsignedLong}

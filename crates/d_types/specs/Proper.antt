@@ -22,7 +22,7 @@ Suits (Some a) keys argument =
     (a.keys ≡ kinds_of_typed keys) × (count keys ≤ MAX_KEYS)
     × HasArgument a.function argument
 
--- each part is of the kind that its index asks for, and an aggregation is one of the script's
+-- each part is of the kind that its place asks for, and an aggregation is one of the script's
 abbrev pub IsProperAction : Aggs → Action → Type 0
 IsProperAction aggs (Evaluate x) = Unit {0}
 IsProperAction aggs (Trace x) = Unit {0}

@@ -39,8 +39,8 @@ pub(crate) struct Progress {
 }
 
 impl Progress {
-    /// That of a reading which has not begun. A single worker reads no pieces; of more, one thread
-    /// adds those that wait.
+    /// The progress of a reading that has not begun. A single worker reads no pieces; of more, one
+    /// thread adds those that wait.
     pub(crate) fn new(
         alloc: Global,
         hash_key: HashKey,

@@ -27,8 +27,8 @@ pub use Rattle.aggregations.specs.Table.{functions_of}
 pub use Rattle.aggregations.specs.declared.function.AggFn.{AggFn}
 pub use Rattle.d_lexer.specs.declared.fault.TheConstants.{MAX_BYTES}
 pub use Rattle.d_parser.specs.declared.tree.Description.{Description}
-pub use Rattle.d_types.specs.Clauses.{Evaluation, Made, and_then, argument_by, effect_by, fault_line}
-pub use Rattle.d_types.specs.Clauses.{nothing_made, run_of, values_of}
+pub use Rattle.d_types.specs.Clauses.{Evaluation, Made, and_then, argument_by, effect_by}
+pub use Rattle.d_types.specs.Clauses.{fault_line, nothing_made, run_of, values_of}
 pub use Rattle.d_types.specs.Expressions.{eval, keys_of, number_outcome, text_outcome}
 pub use Rattle.d_types.specs.Held.{AreTyped, AreTypedOwn, HasTypedBuiltIns, Slots, slots_of}
 pub use Rattle.d_types.specs.Sizes.{statement_count}
