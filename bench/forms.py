@@ -478,7 +478,14 @@ VARIABLES = {
         lambda size: trace_of(size, thread="{0}", program="{0:0255}"),
         lambda size: of_hit(each(4, "self->a{0}=execname;")),
         more=lambda size: with_variables(
-            size, 4, {"kept text": 4 * size, "byte of a kept text": 4 * size * 255}
+            size,
+            4,
+            {
+                "kept text": 4 * size,
+                "byte of a kept text": 4 * size * 255,
+                "numbered text": size,
+                "byte of a numbered text": size * 255,
+            },
         ),
     ),
 }

@@ -45,10 +45,12 @@ EACH = {
     "further variable": 510,
     "clause-local variable": 240,
     "thread's array": 800,
-    "element": 150,
+    "element": 330,
     "further part of an element's key": 34,
     "kept text": 32,
     "byte of a kept text": 1.1,
+    "numbered text": 200,
+    "byte of a numbered text": 1.1,
 }
 # What groups make. These terms count twice where a script exits.
 MADE_BY_GROUPS = [
@@ -71,6 +73,8 @@ MADE_BY_GROUPS = [
     "further part of an element's key",
     "kept text",
     "byte of a kept text",
+    "numbered text",
+    "byte of a numbered text",
 ]
 # The bytes of a trace that several workers read at a time, unless a row is longer.
 READ_TOGETHER = 1 << 22

@@ -93,7 +93,9 @@ def functions_in(path):
     for head in HEAD.finditer(text):
         if TEST.search(text[max(0, head.start() - 10) : head.start()]):
             continue
-        shut = rf"^{head[1]}(?:\}}|\{{\}})$" + (rf"|^{head[1]}\S.*;$" if head[1] else "")
+        shut = rf"^{head[1]}(?:\}}|\{{\}})$"
+        if head[1]:
+            shut += rf"|^{head[1]}(?:\S|    ensures ).*;$"
         end = re.compile(shut, re.MULTILINE).search(text, head.end())
         whole = text[head.end() : end.end() if end else len(text)]
         body = whole[max(whole.find(f"\n{head[1]}{{"), 0) :]

@@ -1,7 +1,7 @@
 -- One aggregation takes the entries of another.
 use Rattle.std.proofs.Common.{◌≡◌, ℕ, ◌+◌, ◌<◌, ◌≤◌, ◌⊎◌, inl, inr, Bool, true, false, cond, length}
 use Rattle.std.proofs.Common.{get_or, set, drop, List, [], ◌∷◌, ◌++◌, Option, None, Some, refl, sym}
-use Rattle.std.proofs.Common.{ap, ◌∙◌, subst, arith, sum_by, append-nil, zero-add}
+use Rattle.std.proofs.Common.{ap, ◌∙◌, subst, arith, sum_by, zero-add}
 use Rattle.std.specs.Prelude.{slice_get}
 use Rattle.std.specs.Option.{option_map}
 use Rattle.std.proofs.lemmas.Bool.{cases_eq}
@@ -42,17 +42,6 @@ left_out : (key : List KeyPart) (es : List (List KeyPart × Held)) → AllByRecu
 left_out key [] h = refl
 left_out key (e ∷ es) h = ap (λ b. cond b (Some e.1) (lookup (same_key key) es)) h.0 ∙ left_out key es h.1
 
-pub merging_start : (first all : Aggregation) → IsDistinct same_key (keys_of all.entries) → Merging first all all.entries first
-merging_start first all apart = record {
-  function = refl;
-  apart = apart;
-  todo = λ k p e. (e, refl);
-  done = λ k none xs ys a b.
-      let nil : ys ≡ [] = subst (λ o. IsEntry first.function o ys) none b in
-      subst (λ l. IsEntry first.function (entry_at k first) l) (sym (ap (λ l. xs ++ l) nil ∙ append-nil xs)) a;
-  held = omega arith;
-}
-
 pub merging_more : (first all now next : Aggregation) (key : List KeyPart) (p : Held) (rest : List (List KeyPart × Held)) → Merging first all ((key, p) ∷ rest) now
     → next.function ≡ now.function → count_of next ≤ count_of now + count_in p
     → Puts now next key (Joins first.function (entry_at key now) (Some p)) → Merging first all rest next
@@ -87,9 +76,6 @@ merging_more first all now next key p rest m kept more puts = record {
         let here = subst (λ q. Joins first.function (entry_at q now) (Some p) (entry_at q next)) (exact k t) puts.here in
         λ xs ys a b. here xs ys (subst (λ o. IsEntry first.function o xs) (sym old.1) a) (subst (λ o. IsEntry first.function o ys) old.0 b)
     done k e false t = subst (λ o. Joins first.function (entry_at k first) (entry_at k all) o) (sym (puts.others k t)) (m.done k (passed k t ∙ e))
-
-pub merging_all : (first all now : Aggregation) → Merging first all [] now → TakesAll first all now
-merging_all first all now m key = m.done key refl
 
 -- ---- tables
 

@@ -1,6 +1,5 @@
 pub mod Vocabulary
 pub mod Ranges
-pub mod Lent
 pub mod LinearRanges
 pub mod Buckets
 pub mod Histograms

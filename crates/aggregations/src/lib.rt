@@ -7,12 +7,12 @@ mod held;
 mod histogram;
 mod index_cache;
 pub mod laws;
-mod lent_key;
 mod linear_range;
 mod partial;
 mod scale;
 mod slot;
 mod table;
+mod word_key;
 
 pub use function::AggFn;
 pub use histogram::Histogram;
@@ -20,3 +20,4 @@ pub use linear_range::{LinearRange, MAX_LEVELS, MAX_STEP};
 pub use partial::Partial;
 pub use scale::Scale;
 pub use table::AggTable;
+pub use word_key::WordKey;

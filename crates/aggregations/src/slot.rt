@@ -2,12 +2,13 @@
 
 ghost use Rattle.std.specs.Prelude.{◌≡◌, ◌+◌, ◌<◌, ◌≤◌, ◌^◌, [], map, IfOk, IfSome, IsNone, OnOk};
 ghost use Rattle.std.specs.Prelude.{OnErr};
+ghost use Rattle.numbered.specs.Words.{key_in};
 
 use crate::entries::Entries;
 use crate::function::AggFn;
-use crate::lent_key::key_in_room;
 use crate::partial::Partial;
-use d_values::{Key, ValueRef};
+use crate::word_key::{WordKey, key_in_room};
+use d_values::Key;
 use indexmap::IndexMap;
 use keyed_hash::HashKey;
 use std::alloc::{AllocError, Global};
@@ -38,7 +39,7 @@ impl Model for Slot {
 }
 
 impl Slot {
-    ghost use Rattle.aggregations.specs.{Table.count_of, Lent.key_of};
+    ghost use Rattle.aggregations.specs.{Table.count_of};
     ghost use Rattle.aggregations.specs.Vocabulary.{IsDistinct, deref_pair, keys_of, same_key};
     ghost use Rattle.aggregations.specs.Steps.Entries.{TakesAll, TakesArgument};
 
@@ -88,25 +89,27 @@ impl Slot {
         }
     }
 
-    /// Takes one argument for the key that these values make. A map that is made here hashes by
+    /// Takes one argument for the key that these words make. A map that is made here hashes by
     /// this key.
-    pub(crate) fn add_lent(
+    #[inline(always)]
+    pub(crate) fn add_words(
         &mut self,
         alloc: Global,
         hash_key: HashKey,
-        values: &[ValueRef<'_>],
+        made: WordKey<'_>,
         arg: i64,
     ) -> Result<(), AllocError>
         requires { count_of self.old < 2 ^ 52 }
         ensures function { self.new.function ≡ self.old.function }
-        ensures ok { OnOk result (TakesArgument self.old self.new (key_of values.now) arg) }
+        ensures ok { OnOk result (TakesArgument self.old self.new
+            (key_in made.entry.texts.now made.entry.words.now) arg) }
         ensures count { count_of self.new ≤ count_of self.old + 1 }
         ensures err { OnErr result (self.new ≡ self.old) }
     {
         if let Some(entries) = &mut self.entries {
-            return entries.add_lent(values, arg);
+            return entries.add_words(made, arg);
         }
-        let key = key_in_room(alloc, Key::new(alloc), values)?;
+        let key = key_in_room(alloc, Key::new(alloc), made)?;
         self.add(alloc, hash_key, &key, arg)
     }
 

@@ -1,10 +1,12 @@
 -- What is set, before and after.
 use Rattle.std.specs.Prelude.{◌≡◌, ℕ, zero, suc, Bool, true, false, ◌&&◌, if◌then◌else◌, List, []}
 use Rattle.std.specs.Prelude.{◌∷◌, Option, None, Some, unwrap_or, option_map, slice_get, Result, Ok}
-use Rattle.std.specs.Prelude.{Err, OnOk, OnErr, IfSome, MatchOption}
+use Rattle.std.specs.Prelude.{Err, OnOk, OnErr}
 use Rattle.std.proofs.Common.{refl, sym, ap, ◌∙◌, subst, true≢false}
 use Rattle.std.specs.Map.{lookup, lookup_key, values_of}
 use Rattle.indexmap.specs.Layout.{set_value_at}
+use Rattle.std.proofs.lemmas.Map.Made.{lookup_key_same}
+use Rattle.std.proofs.lemmas.Option.{slice_get-map}
 use Rattle.d_values.specs.declared.key.KeyPart.{KeyPart}
 use Rattle.d_values.specs.declared.value.Kind.{Kind}
 use Rattle.d_values.specs.declared.value.Kind.TheVariants as k
@@ -14,7 +16,6 @@ use Rattle.std.proofs.lemmas.Bool.Decides.{Decides-eqb}
 use Rattle.d_values.specs.declared.held.Held.{Held}
 use Rattle.d_values.specs.declared.variable.Var.{Var}
 use Rattle.d_values.specs.Keys.{same_key}
-use Rattle.d_values.specs.KeyLaws.{same_key_decides}
 use Rattle.d_values.specs.Variables.{same_var, same_var_decides}
 use Rattle.d_values.specs.Stores.{Locals, Own, kind_of, blank, is_blank, value_to_keep, local_entry}
 use Rattle.d_values.specs.Stores.{local_of, AreLocals, with_local, element, own_entry, own_of}
@@ -49,9 +50,6 @@ kept_some value x e = elim (is_blank value) as (λ b. is_blank value ≡ b → (
 
     same : Some value ≡ Some x → value ≡ x
     same f = cc
-
-pub kept_of : (value : Value) → is_blank value ≡ false → value_to_keep value ≡ Some value
-kept_of value e = ap (λ b. if b then None else Some value) e
 
 -- all that one variable holds, in another form
 pub holds_by : (old : List (Var × Held)) (var : Var) (key : List KeyPart) (value : Option Value) (held was is : Held) → lookup (same_var var) old ≡ Some held → was ≡ held
@@ -112,13 +110,6 @@ own_of-set old new var key value kind sets i v k =
     (ap (λ o. unwrap_or o (blank v.kind)) (sets v k)
     ∙ read_one var v value (own_entry old v k) kind (same_var var v && same_key key k) (both_same var v key k)) i
 
-pub local_of-set : (old new : Locals) (var : Var) (value : Value) → kind_of value ≡ var.kind
-    → ((v : Var) → local_entry new v ≡ with_local (local_entry old) var (value_to_keep value) v)
-    → local_of new ≡ with_local (local_of old) var value
-local_of-set old new var value kind sets i v =
-    (ap (λ o. unwrap_or o (blank v.kind)) (sets v)
-    ∙ read_one var v value (local_entry old v) kind (same_var var v) (same_var_decides var v).0) i
-
 pub own_entry-pairs_of : (variables : List (Var × Held)) (v : Var) (k : List KeyPart) → own_entry (pairs_of variables) v k ≡ value_at variables v k
 own_entry-pairs_of [] v k = refl
 own_entry-pairs_of (p ∷ variables) v k =
@@ -155,44 +146,14 @@ sets_by old new var key value is puts holds v k =
     chosen true same = holds k ∙ ap (λ w. if same_key key k then value else value_at old w k) (same refl)
     chosen false other = refl
 
--- none was held, and none is
-pub sets_none : (old : List (Var × Held)) (var : Var) (key : List KeyPart) → lookup (same_var var) old ≡ None → Sets old old var key None
-sets_none old var key none v k = chosen (same_var var v && same_key key k) (both_same var v key k)
-  where
-    chosen : (b : Bool) → (b ≡ true → var ≡ v) → value_at old v k ≡ (if b then None else value_at old v k)
-    chosen true same = ap (λ w. value_at old w k) (sym (same refl)) ∙ ap (λ o. value_in o k) none
-    chosen false other = refl
-
 -- ---- entries by their index
 
--- a key that is found passes the test
-key_passes : {K X : Type 0} (test : K → Bool) (entries : List (K × X)) (k : K) → lookup_key test entries ≡ Some k → test k ≡ true
-key_passes {K} test [] k e = absurd (none e)
-  where
-    none : ◌≡◌ {A = Option K} None (Some k) → ⊥
-    none f = cc
-key_passes test (p ∷ entries) k e = elim (test p.0) as (λ b. test p.0 ≡ b → (if b then Some p.0 else lookup_key test entries) ≡ Some k → test k ≡ true) [
-  | true ↦ λ passes f. ap test (sym (same f)) ∙ passes
-  | false ↦ λ fails f. key_passes test entries k f
-] refl e
-  where
-    same : Some p.0 ≡ Some k → p.0 ≡ k
-    same f = cc
-
 pub key_found : {X : Type 0} (var k : Var) (entries : List (Var × X)) → lookup_key (same_var var) entries ≡ Some k → var ≡ k
-key_found var k entries e = (same_var_decides var k).0 (key_passes (same_var var) entries k e)
-
-pub same_key_found : {X : Type 0} (key k : List KeyPart) (entries : List (List KeyPart × X)) → lookup_key (same_key key) entries ≡ Some k → key ≡ k
-same_key_found key k entries e = (same_key_decides key k).0 (key_passes (same_key key) entries k e)
+key_found var k entries e = lookup_key_same same_var_decides var entries k e
 
 pub value_found : (entries : List (Var × Held)) (i : ℕ) (var : Var) (value : Held) → slice_get entries i ≡ Some (var, value)
     → slice_get (values_of entries) i ≡ Some value
-value_found [] i var value e = absurd (none e)
-  where
-    none : ◌≡◌ {A = Option (Var × Held)} None (Some (var, value)) → ⊥
-    none f = cc
-value_found (p ∷ entries) zero var value e = ap (λ o. option_map (λ q. q.1) o) e
-value_found (p ∷ entries) (suc i) var value e = value_found entries i var value e
+value_found entries i var value e = slice_get-map (λ p. p.1) entries i ∙ ap (λ o. option_map (λ p. p.1) o) e
 
 -- ---- by whether memory was refused
 
@@ -212,15 +173,3 @@ on_either (Err e) p q f g = g q
 
 pub some_is : {X : Type 0} (x y : X) → Some x ≡ Some y → x ≡ y
 some_is x y e = cc
-
-pub on_some : {X : Type 0} (P Q : X → Type 0) (r : Option X) → IfSome r P → ((x : X) → P x → Q x) → IfSome r Q
-on_some P Q None p f = p
-on_some P Q (Some x) p f = f x p
-
-pub on_match : {X P Q : Type 0} (R S : X → Type 0) (r : Option X) → MatchOption r P R → (P → Q) → ((x : X) → R x → S x) → MatchOption r Q S
-on_match R S None p f g = f p
-on_match R S (Some x) p f g = g x p
-
-pub by_match : {X P Q : Type 0} (R : X → Type 0) (r : Option X) → MatchOption r P R → (P → Q) → ((x : X) → R x → Q) → Q
-by_match R None p f g = f p
-by_match R (Some x) p f g = g x p

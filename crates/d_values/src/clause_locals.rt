@@ -1,12 +1,11 @@
 //! Clause-local variables.
 
-ghost use Rattle.std.specs.Prelude.{◌≡◌, [], Some, unwrap_or, OnOk, OnErr};
+ghost use Rattle.std.specs.Prelude.{◌≡◌, [], unwrap_or, OnOk, OnErr};
 ghost use Rattle.d_values.specs.{Variables.same_var};
 ghost use Rattle.d_values.specs.Vocabulary.{get, Updates};
 ghost use Rattle.d_values.specs.Stores.{blank, kind_of, value_to_keep, lent_value, local_entry};
 ghost use Rattle.d_values.specs.Stores.{local_of, with_local};
 
-use crate::lookup::index_of;
 use crate::value::{Value, ValueRef};
 use crate::variable::Var;
 use indexmap::IndexMap;
@@ -100,11 +99,8 @@ impl ClauseLocals {
 fn find(map: &IndexMap<Var, Value>, var: Var) -> ValueRef<'_>
     ensures { lent_value result ≡ unwrap_or (get same_var map.now var) (blank var.kind) }
 {
-    let Some(index) = index_of(map, var) else {
-        return ValueRef::blank(var.kind);
-    };
-    match map.get_index(index) {
-        Some((_, value)) => value.as_ref(),
+    match map.get(&var) {
+        Some(value) => value.as_ref(),
         None => ValueRef::blank(var.kind),
     }
 }
@@ -117,21 +113,6 @@ fn put(map: &mut IndexMap<Var, Value>, var: Var, value: Value) -> Result<(), All
     if value.is_blank() {
         map.swap_remove(&var);
         return Ok(());
-    }
-    put_kept(map, var, value)
-}
-
-// Sets a variable's value, which isn't blank.
-#[inline(always)]
-fn put_kept(map: &mut IndexMap<Var, Value>, var: Var, value: Value) -> Result<(), AllocError>
-    ensures ok { OnOk result (Updates same_var map.old map.new var (Some value)) }
-    ensures err { OnErr result (map.new.entries ≡ map.old.entries) }
-{
-    if let Some(index) = index_of(map, var) {
-        if let Some(place) = map.get_index_mut(index) {
-            *place = value;
-            return Ok(());
-        }
     }
     map.insert(var, value)?;
     Ok(())

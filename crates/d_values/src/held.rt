@@ -1,31 +1,30 @@
 //! What a thread-local variable holds.
 
-ghost use Rattle.std.specs.Prelude.{◌≡◌, [], false, is_some};
+ghost use Rattle.std.specs.Prelude.{◌≡◌, [], false, is_some, unwrap_or, OnErr, OnOk};
+ghost use Rattle.indexmap.specs.IndexMap.{Updates, get};
 ghost use Rattle.d_values.specs.{Vocabulary.lookup, Keys.same_key};
+ghost use Rattle.d_values.specs.Stores.{blank, lent_value, value_to_keep};
 
-use crate::elements::{Elements, lend, lend_at, replace, replace_at};
 use crate::key::Key;
-use crate::key_parts::KeyParts;
 use crate::value::{Kind, Value, ValueRef};
 use indexmap::IndexMap;
 use keyed_hash::HashKey;
 use std::alloc::{AllocError, Global};
+
+// What a variable holds under its keys. Zero and the empty text are not kept.
+type Elements = IndexMap<Key, Value, HashKey>;
 
 /// What a variable holds: as a scalar, and under its keys.
 #[derive(Drop)]
 pub struct Held {
     scalar: Option<Value>,
     elements: Elements,
-    // Where the element is that was set or looked for last.
-    last: usize,
     ghost keyed: { is_some (lookup (same_key []) elements.entries) ≡ false },
 }
 
 impl Held {
-    ghost use Rattle.std.specs.Prelude.{IfSome, List, MatchOption, None, OnErr, OnOk, Some};
-    ghost use Rattle.std.specs.Prelude.{if◌then◌else◌, unwrap_or};
-    ghost use Rattle.d_values.specs.{Vocabulary.KeyPart, Stores.blank, Stores.lent_value};
-    ghost use Rattle.d_values.specs.{Stores.value_to_keep, Tables.elements_of, Tables.with_scalar};
+    ghost use Rattle.std.specs.Prelude.{List, MatchOption, None, Some, if◌then◌else◌};
+    ghost use Rattle.d_values.specs.{Vocabulary.KeyPart, Tables.elements_of, Tables.with_scalar};
 
     /// What the variable holds without a key. Takes no memory.
     ///
@@ -59,7 +58,6 @@ impl Held {
         Held {
             scalar: None,
             elements: IndexMap::with_hasher(alloc, hash_key),
-            last: 0,
         }
     }
 
@@ -69,7 +67,7 @@ impl Held {
             ≡ unwrap_or (lookup (same_key key.now) (elements_of self.now)) (blank kind) }
     {
         if !key.parts().is_empty() {
-            return lend(&self.elements, self.last, key, kind);
+            return lend(&self.elements, key, kind);
         }
         match &self.scalar {
             Some(value) => value.as_ref(),
@@ -77,52 +75,8 @@ impl Held {
         }
     }
 
-    /// Notes where the key is, if it has a value.
-    pub(crate) fn note(&mut self, key: &Key)
-        ensures { elements_of self.new ≡ elements_of self.old }
-    {
-        if let Some((index, _, _)) = self.elements.get_full(key) {
-            self.last = index;
-        }
-    }
-
-    /// The value at the key of these parts, if it is the element that was set or noted last.
-    pub(crate) fn last<K: KeyParts>(&self, key: &K) -> Option<ValueRef<'_>>
-        ensures { IfSome result (λ value.
-            lookup (same_key (K.parts key.now)) (elements_of self.now) ≡ Some (lent_value value)) }
-    {
-        if key.is_empty() {
-            return None;
-        }
-        lend_at(&self.elements, self.last, key)
-    }
-
-    /// Sets that value. It gives the new value back if the element is another one.
-    pub(crate) fn set_last<K: KeyParts>(
-        &mut self,
-        rooms: &mut Vec<Key>,
-        key: &K,
-        value: Value,
-    ) -> Option<Value>
-        ensures { MatchOption result ((k : List KeyPart)
-            → lookup (same_key k) (elements_of self.new)
-            ≡ (if same_key (K.parts key.now) k then value_to_keep value
-            else lookup (same_key k) (elements_of self.old)))
-            (λ back. (back ≡ value) × (elements_of self.new ≡ elements_of self.old)) }
-    {
-        if key.is_empty() {
-            return Some(value);
-        }
-        replace_at(&mut self.elements, self.last, rooms, key, value)
-    }
-
     /// Sets the key's value.
-    pub(crate) fn set(
-        &mut self,
-        rooms: &mut Vec<Key>,
-        key: &Key,
-        value: Value,
-    ) -> Result<(), AllocError>
+    pub(crate) fn set(&mut self, key: &Key, value: Value) -> Result<(), AllocError>
         ensures ok { OnOk result ((k : List KeyPart)
             → lookup (same_key k) (elements_of self.new)
             ≡ (if same_key key.now k then value_to_keep value
@@ -133,8 +87,7 @@ impl Held {
             self.scalar = value.kept();
             return Ok(());
         }
-        self.last = replace(&mut self.elements, self.last, rooms, key, value)?;
-        Ok(())
+        put(&mut self.elements, key, value)
     }
 
     /// Takes no more room than it needs.
@@ -143,4 +96,29 @@ impl Held {
     {
         self.elements.shrink_to_fit();
     }
+}
+
+// The value at the key, or else zero or the empty text.
+fn lend<'a>(elements: &'a Elements, key: &Key, kind: Kind) -> ValueRef<'a>
+    ensures { lent_value result ≡ unwrap_or (get same_key elements.now key.now) (blank kind) }
+{
+    match elements.get(key) {
+        Some(value) => value.as_ref(),
+        None => ValueRef::blank(kind),
+    }
+}
+
+// Sets the value at the key.
+fn put(elements: &mut Elements, key: &Key, value: Value) -> Result<(), AllocError>
+    ensures ok { OnOk result
+        (Updates same_key elements.old elements.new key.now (value_to_keep value)) }
+    ensures err { OnErr result (elements.new.entries ≡ elements.old.entries) }
+{
+    if value.is_blank() {
+        elements.swap_remove(key);
+        return Ok(());
+    }
+    let key = key.clone()?;
+    elements.insert(key, value)?;
+    Ok(())
 }

@@ -1,7 +1,7 @@
 //! Keys of aggregations and of variables.
 
-ghost use Rattle.std.specs.Prelude.{◌≡◌, ◌↔◌, ◌<◌, ◌++◌, ◌∷◌, [], length, IfOk, OnOk, OnErr};
-ghost use Rattle.std.specs.Prelude.{IsTrue, slice_set, vec_len, refl};
+ghost use Rattle.std.specs.Prelude.{◌≡◌, ◌↔◌, ◌<◌, ◌++◌, ◌∷◌, [], length, OnOk, OnErr};
+ghost use Rattle.std.specs.Prelude.{IsTrue, slice_set, refl};
 ghost use Rattle.d_values.specs.Vocabulary.{ap, partial_equiv_from_equiv, po, flat_map};
 ghost use Rattle.d_values.specs.Vocabulary.{as_partial_cmp};
 ghost use Rattle.d_values.specs.Keys.{part_cmp, part_of, key_cmp, same_part, same_key};
@@ -61,19 +61,6 @@ impl KeyPart {
                 Ok(())
             }
             KeyPart::Name(text) => text.assign(bytes),
-        }
-    }
-
-    // Becomes another part, reusing its own room.
-    fn assign(&mut self, alloc: Global, part: &KeyPart) -> Result<(), AllocError>
-        ensures { OnOk result (self.new ≡ part.now) }
-    {
-        match part {
-            KeyPart::Number(number) => {
-                *self = KeyPart::Number(*number);
-                Ok(())
-            }
-            KeyPart::Name(text) => self.set_name(alloc, text.as_bytes()),
         }
     }
 }
@@ -192,14 +179,6 @@ impl Key {
         }
     }
 
-    /// The parts, given back from left to right. Takes no memory.
-    pub fn into_parts(self) -> Vec<KeyPart>
-        ensures { result.items ≡ self }
-    {
-        let Key { parts } = self;
-        parts
-    }
-
     /// The parts, from left to right.
     ///
     /// ```text
@@ -258,30 +237,6 @@ impl Key {
         let alloc = *self.parts.allocator();
         self.parts[index].set_name(alloc, bytes)
     }
-}
-
-// A copy of a key, in the room of another if both have the same number of parts.
-pub(crate) fn copy_in_room(room: Key, key: &Key) -> Result<Key, AllocError>
-    ensures { IfOk result (λ k. k ≡ key.now) }
-{
-    let mut parts = room.into_parts();
-    if parts.len() != key.parts().len() {
-        return key.clone();
-    }
-    copy_parts(&mut parts, key.parts())?;
-    Ok(Key { parts })
-}
-
-// Copies parts in the room of as many others.
-fn copy_parts(room: &mut Vec<KeyPart>, parts: &[KeyPart]) -> Result<(), AllocError>
-    requires { vec_len room.old ≡ length parts.now }
-    ensures { OnOk result (room.new.items ≡ parts.now) }
-{
-    let alloc = *room.allocator();
-    for (index, part) in parts.iter().enumerate() {
-        room[index].assign(alloc, part)?;
-    }
-    Ok(())
 }
 
 // Takes no memory.

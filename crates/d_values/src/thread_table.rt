@@ -1,6 +1,6 @@
 //! Thread-local variables.
 
-ghost use Rattle.std.specs.Prelude.{◌≡◌, [], None, unwrap_or, IfSome, MatchOption, OnOk, OnErr};
+ghost use Rattle.std.specs.Prelude.{◌≡◌, [], None, unwrap_or, OnOk, OnErr};
 ghost use Rattle.d_values.specs.{Vocabulary.get, Variables.same_var};
 ghost use Rattle.d_values.specs.Stores.{blank, kind_of, value_to_keep, lent_value, own_entry};
 ghost use Rattle.d_values.specs.Stores.{own_of, with_own, AreOwn};
@@ -9,8 +9,6 @@ ghost use Rattle.d_values.specs.Steps.Tables.{value_at, Sets};
 
 use crate::held::Held;
 use crate::key::Key;
-use crate::key_parts::KeyParts;
-use crate::lookup::index_of;
 use crate::value::{Value, ValueRef};
 use crate::variable::Var;
 use indexmap::IndexMap;
@@ -26,8 +24,6 @@ const MAX_EXACT: usize = 4;
 #[derive(Drop)]
 pub struct ThreadTable {
     variables: IndexMap<Var, Held, HashKey>,
-    // Keys that were removed, for their room.
-    rooms: Vec<Key>,
 }
 
 impl Model for ThreadTable {
@@ -64,7 +60,6 @@ impl ThreadTable {
     {
         ThreadTable {
             variables: IndexMap::with_hasher(alloc, hash_key),
-            rooms: Vec::new(alloc),
         }
     }
 
@@ -81,8 +76,7 @@ impl ThreadTable {
         find(&self.variables, var, key)
     }
 
-    /// Sets the variable under the key, to a value of its kind. The key is cloned only if
-    /// nothing was set.
+    /// Sets the variable under the key, to a value of its kind.
     ///
     /// ```text
     /// let mut table = ThreadTable::new(alloc);
@@ -100,55 +94,7 @@ impl ThreadTable {
             (own_entry self.new ≡ with_own (own_entry self.old) var key.now (value_to_keep value)) }
         ensures err { OnErr result (self.new ≡ self.old) }
     {
-        put(&mut self.variables, &mut self.rooms, var, key, value)
-    }
-
-    /// Notes where the variable's element is under the key, for `last` and `set_last`.
-    ///
-    /// ```text
-    /// table.note(var, &key);
-    /// table.last(var, &key); // Some(ValueRef::Int(5)), if the variable holds 5 under the key
-    /// ```
-    pub fn note(&mut self, var: Var, key: &Key)
-        ensures { self.new ≡ self.old }
-    {
-        note(&mut self.variables, var, key)
-    }
-
-    /// What the variable holds under the key of these parts, if that element was set or noted last
-    /// among those of the variable. Takes no memory.
-    ///
-    /// ```text
-    /// table.set(var, &key, Value::Int(5))?;
-    /// table.last(var, &key); // Some(ValueRef::Int(5))
-    /// ```
-    pub fn last<K: KeyParts>(&self, var: Var, key: &K) -> Option<ValueRef<'_>>
-        ensures value { IfSome result
-            (λ value. lent_value value ≡ own_of self.now var (K.parts key.now)) }
-        ensures kind { IfSome result (λ value. kind_of (lent_value value) ≡ var.kind) }
-    {
-        find_last(&self.variables, var, key)
-    }
-
-    /// Sets what `last` returns, to a value of the variable's kind. It gives the value back if
-    /// `last` returns none, and changes nothing. Takes no memory.
-    ///
-    /// ```text
-    /// table.set(var, &key, Value::Int(5))?;
-    /// table.set_last(var, &key, Value::Int(6)); // None
-    /// table.get(var, &key); // ValueRef::Int(6)
-    /// ```
-    pub fn set_last<K: KeyParts>(&mut self, var: Var, key: &K, value: Value) -> Option<Value>
-        requires { kind_of value ≡ var.kind }
-        ensures own { MatchOption result
-            (own_of self.new ≡ with_own (own_of self.old) var (K.parts key.now) value)
-            (λ back. back ≡ value) }
-        ensures kept { MatchOption result
-            (own_entry self.new
-            ≡ with_own (own_entry self.old) var (K.parts key.now) (value_to_keep value))
-            (λ _. self.new ≡ self.old) }
-    {
-        put_last(&mut self.variables, &mut self.rooms, var, key, value)
+        put(&mut self.variables, var, key, value)
     }
 
     /// Borrows the underlying map, from each variable that was ever set to what it holds. Takes no
@@ -171,45 +117,15 @@ fn find<'a>(variables: &'a IndexMap<Var, Held, HashKey>, var: Var, key: &Key) ->
     ensures { lent_value result
         ≡ unwrap_or (value_at variables.now.entries var key.now) (blank var.kind) }
 {
-    let Some(index) = index_of(variables, var) else {
-        return ValueRef::blank(var.kind);
-    };
-    match variables.get_index(index) {
-        Some((_, held)) => held.get(key, var.kind),
+    match variables.get(&var) {
+        Some(held) => held.get(key, var.kind),
         None => ValueRef::blank(var.kind),
-    }
-}
-
-// What a variable has at the key of these parts, if that is the element that was used last.
-fn find_last<'a, K: KeyParts>(
-    variables: &'a IndexMap<Var, Held, HashKey>,
-    var: Var,
-    key: &K,
-) -> Option<ValueRef<'a>>
-    ensures { IfSome result (λ value.
-        value_at variables.now.entries var (K.parts key.now) ≡ Some (lent_value value)) }
-{
-    let index = index_of(variables, var)?;
-    let (_, held) = variables.get_index(index)?;
-    held.last(key)
-}
-
-// Notes where a variable has a key.
-fn note(variables: &mut IndexMap<Var, Held, HashKey>, var: Var, key: &Key)
-    ensures { pairs_of variables.new.entries ≡ pairs_of variables.old.entries }
-{
-    let Some(index) = index_of(variables, var) else {
-        return;
-    };
-    if let Some(held) = variables.get_index_mut(index) {
-        held.note(key);
     }
 }
 
 // Sets what a variable has at a key.
 fn put(
     variables: &mut IndexMap<Var, Held, HashKey>,
-    rooms: &mut Vec<Key>,
     var: Var,
     key: &Key,
     value: Value,
@@ -218,40 +134,17 @@ fn put(
         (Sets variables.old.entries variables.new.entries var key.now (value_to_keep value)) }
     ensures err { OnErr result (pairs_of variables.new.entries ≡ pairs_of variables.old.entries) }
 {
-    if let Some(index) = index_of(variables, var) {
+    if let Some((index, _, _)) = variables.get_full(&var) {
         if let Some(held) = variables.get_index_mut(index) {
-            return held.set(rooms, key, value);
+            return held.set(key, value);
         }
     }
-    start(variables, rooms, var, key, value)
-}
-
-// Sets what a variable has at the key of these parts, if that is the element that was used last.
-fn put_last<K: KeyParts>(
-    variables: &mut IndexMap<Var, Held, HashKey>,
-    rooms: &mut Vec<Key>,
-    var: Var,
-    key: &K,
-    value: Value,
-) -> Option<Value>
-    ensures { MatchOption result
-        (Sets variables.old.entries variables.new.entries var (K.parts key.now)
-        (value_to_keep value)) (λ back. (back ≡ value)
-        × (pairs_of variables.new.entries ≡ pairs_of variables.old.entries)) }
-{
-    let Some(index) = index_of(variables, var) else {
-        return Some(value);
-    };
-    match variables.get_index_mut(index) {
-        Some(held) => held.set_last(rooms, key, value),
-        None => Some(value),
-    }
+    start(variables, var, key, value)
 }
 
 // Sets what a variable has at a key that has had nothing at any.
 fn start(
     variables: &mut IndexMap<Var, Held, HashKey>,
-    rooms: &mut Vec<Key>,
     var: Var,
     key: &Key,
     value: Value,
@@ -265,7 +158,7 @@ fn start(
         return Ok(());
     }
     let mut held = Held::new(*variables.allocator(), *variables.hasher());
-    held.set(rooms, key, value)?;
+    held.set(key, value)?;
     held.shrink_to_fit();
     variables.insert(var, held)?;
     if variables.len() <= MAX_EXACT {

@@ -3,10 +3,11 @@
 use aggregations::AggFn;
 use d_parser::Description;
 use d_types::Piece;
-use d_values::{ClauseLocals, DType, ThreadTable, ValueRef};
-use dif_machine::{Frame, MachineFault, run_in};
+use d_values::DType;
+use dif_machine::{Machine, MachineFault, Memory, run_on};
 use dif_validate::ValidDifo;
 use firings::Firing;
+use numbered::Word;
 
 /// The object of an expression.
 #[derive(Drop)]
@@ -18,32 +19,42 @@ pub struct TypedObject {
 }
 
 impl TypedObject {
-    ghost use Rattle.dif_codegen.specs.{Vocabulary.variables, Correct.Gives, Meaning.value_of};
-    ghost use Rattle.dif_machine.specs.Runs.{RunEnds, value_result};
+    ghost use Rattle.std.specs.Prelude.{◌≡◌, IfOk};
+    ghost use Rattle.numbered.specs.Texts.{Keeps};
+    ghost use Rattle.dif_codegen.specs.{Correct.Gives, Meaning.value_of};
+    ghost use Rattle.dif_machine.specs.Machine.{IsWithin, Knows, word_result};
+    ghost use Rattle.dif_machine.specs.Runs.{RunEnds};
 
-    /// Runs it for a firing, in a frame that may have served other runs, and lends what it returns.
-    /// The variables keep the writes so far, even after a fault or if memory was refused.
+    /// Runs it for a firing, on a machine that may have served other runs. The variables keep the
+    /// writes so far, even after a fault or if memory was refused.
     ///
     /// ```text
     /// // of `timestamp`, where the firing's time is 1000
-    /// object.run_in(&firing, &mut frame, &mut locals, &mut own)?; // ValueRef::Int(1000)
+    /// object.run_on(&firing, &mut machine, &mut memory)?; // Word::Int(1000)
     /// ```
     #[inline(always)]
-    pub fn run_in<'a>(
-        &'a self,
-        firing: &'a Firing,
-        frame: &'a mut Frame,
-        locals: &mut ClauseLocals,
-        own: &mut ThreadTable,
-    ) -> Result<ValueRef<'a>, MachineFault>
-        ensures meant { Gives (value_of firing.now self.now.object (variables locals.old own.old))
-            (value_result result) (variables locals.new own.new) }
-        ensures run { RunEnds self.now.object firing.now (variables locals.old own.old)
-            (value_result result) (variables locals.new own.new) }
+    pub fn run_on<M: Memory>(
+        &self,
+        firing: &Firing,
+        machine: &mut Machine,
+        memory: &mut M,
+    ) -> Result<Word, MachineFault>
+        requires over { M.is_over memory.old machine.old.texts }
+        requires known { Knows firing.now machine.old.known }
+        ensures meant { Gives (value_of firing.now self.now.object
+            (M.holds memory.old machine.old.texts)) (word_result machine.new.texts result)
+            (M.holds memory.new machine.new.texts) }
+        ensures run { RunEnds self.now.object firing.now (M.holds memory.old machine.old.texts)
+            (word_result machine.new.texts result) (M.holds memory.new machine.new.texts) }
+        ensures within { IfOk result (IsWithin machine.new.texts) }
+        ensures known { Knows firing.now machine.new.known }
+        ensures kept { Keeps machine.old.texts machine.new.texts }
+        ensures over { M.is_over memory.new machine.new.texts }
+        ensures beside { M.beside memory.new ≡ M.beside memory.old }
     {
         // That it is valid.
         let _ = self.object.difo();
-        run_in(&self.object, firing, frame, locals, own)
+        run_on(&self.object, firing, machine, memory)
     }
 }
 

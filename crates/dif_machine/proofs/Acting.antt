@@ -1,20 +1,19 @@
 -- What each instruction makes of a state, from what its call read and wrote.
-use Rattle.std.specs.Prelude.{◌≡◌, ◌≢◌, ◌<◌, option_map, ℕ, zero, suc, ◌+◌, ◌++◌, Bool, true, false}
+use Rattle.std.specs.Prelude.{◌≡◌, ◌≢◌, ◌<◌, ℕ, zero, suc, ◌+◌, ◌++◌, Bool, true, false}
 use Rattle.std.specs.Prelude.{List, [], ◌∷◌, length, nat_lt, Option, Some, None, Ok, Err, slice_get}
 use Rattle.std.specs.Int.{cast_signed, w64}
 use Rattle.std.proofs.Common.{refl, sym, ap, ◌∙◌, cond}
 use Rattle.std.proofs.lemmas.Bool.{ltb-true}
-use Rattle.d_values.specs.Stores.{with_local, with_own}
 use Rattle.d_values.specs.Storage.{set_local, set_own}
 use Rattle.dif_machine.specs.Vocabulary.{Comparison, Firing, Alu, Not, Mov, Cmp, Tst, Scmp, Ba}
 use Rattle.dif_machine.specs.Vocabulary.{Branch, Setx, Sets, Ldgs, Ldga, Ldts, Stts, Ldls, Stls}
 use Rattle.dif_machine.specs.Vocabulary.{Pushtr, Pushtv, Flushts, Ldtaa, Sttaa, Call, Ret, Nop}
 use Rattle.dif_machine.specs.Vocabulary.{Condition, Function, KeyPart, Number, Name, Kind}
 use Rattle.dif_machine.specs.Vocabulary.{NumberKind, TextKind, Object, Operator, OutOfZero, Reg, at}
-use Rattle.dif_machine.specs.Vocabulary.{Value, Int, Text, Var, Variables}
-use Rattle.dif_machine.specs.Frames.{Frame, at_index, with_content, with_value, with_comparison}
+use Rattle.dif_machine.specs.Vocabulary.{Value, Int, Text, Var, Variables, kind_of}
+use Rattle.dif_machine.specs.Frames.{Frame, at_index, with_value, with_comparison}
 use Rattle.dif_machine.specs.Frames.{with_tuple}
-use Rattle.dif_machine.specs.Held.{part_of_cell}
+use Rattle.d_values.specs.Keys.{part_of}
 use Rattle.dif_machine.specs.Operators.{result_of, complement, comparison_of, text_comparison_of}
 use Rattle.dif_machine.specs.Operators.{holds, call_of}
 use Rattle.dif_machine.specs.Sources.{built_in_of, argument_of, local_in, own_value}
@@ -27,6 +26,12 @@ kind_is NumberKind (Int n) other go h = refl
 kind_is TextKind (Text bytes) other go h = refl
 kind_is NumberKind (Text bytes) other go h = absurd (h refl)
 kind_is TextKind (Int n) other go h = absurd (h refl)
+
+kind_fits : (k : Kind) (value : Value) (go : Value → Next) → on_kind k (Some value) go ≢ Stuck → kind_of value ≡ k
+kind_fits NumberKind (Int n) go h = refl
+kind_fits TextKind (Text bytes) go h = refl
+kind_fits NumberKind (Text bytes) go h = absurd (h refl)
+kind_fits TextKind (Int n) go h = absurd (h refl)
 
 key_is : (key : List KeyPart) (other next : Next) → on_key key other ≢ Stuck → on_key key next ≡ next
 key_is [] other next h = absurd (h refl)
@@ -110,39 +115,30 @@ module _ (o : Object) (f : Firing) (s : Frame) (vars : Variables) where
       ∙ ap (λ k. Goes (with_comparison s k) vars) (sym k)
       ∙ goes_to (with_comparison s known) t e
 
-  -- a constant that isn't there leaves the run stuck
-  pub sets : (i : ℕ) (d : Reg) (t : Frame) (some : Variables) → act (Sets i d) o f s some ≢ Stuck → t ≡ with_content s d (option_map Text (slice_get o.texts i))
+  pub sets : (i : ℕ) (d : Reg) (bytes : List ℕ) (t : Frame) → slice_get o.texts i ≡ Some bytes → t ≡ with_value s d (Text bytes)
       → act (Sets i d) o f s vars ≡ Goes t vars
-  sets i d t some runs e = by (slice_get o.texts i) runs e
-    where
-      by : (x : Option (List ℕ)) → on x (λ bytes. puts s d (Text bytes) some) ≢ Stuck → t ≡ with_content s d (option_map Text x)
-          → on x (λ bytes. puts s d (Text bytes) vars) ≡ Goes t vars
-      by None runs e = absurd (runs refl)
-      by (Some bytes) runs e = goes_to (with_value s d (Text bytes)) t e
+  sets i d bytes t n e =
+      ap (λ x. on x (λ bytes. puts s d (Text bytes) vars)) n
+      ∙ goes_to (with_value s d (Text bytes)) t e
 
   -- ---- values of either kind
 
-  pub mov : (a d : Reg) (t : Frame) (some : Variables) → act (Mov a d) o f s some ≢ Stuck → t ≡ with_content s d (at s.registers a)
+  pub mov : (a d : Reg) (value : Value) (t : Frame) → at s.registers a ≡ Some value → t ≡ with_value s d value
       → act (Mov a d) o f s vars ≡ Goes t vars
-  mov a d t some runs e = by (at s.registers a) runs e
-    where
-      by : (x : Option Value) → on x (λ x. puts s d x some) ≢ Stuck → t ≡ with_content s d x → on x (λ x. puts s d x vars) ≡ Goes t vars
-      by None runs e = absurd (runs refl)
-      by (Some value) runs e = goes_to (with_value s d value) t e
+  mov a d value t p e =
+      ap (λ x. on x (λ x. puts s d x vars)) p
+      ∙ goes_to (with_value s d value) t e
 
   -- the one array of arguments
   pub only_array : (v : ℕ) (a d : Reg) → act (Ldga v a d) o f s vars ≢ Stuck → v ≡ 0
   only_array zero a d runs = refl
   only_array (suc v) a d runs = absurd (runs refl)
 
-  -- a built-in variable that isn't there leaves the run stuck
-  pub ldgs : (v : ℕ) (d : Reg) (t : Frame) (some : Variables) → act (Ldgs v d) o f s some ≢ Stuck → t ≡ with_content s d (built_in_of f v)
+  pub ldgs : (v : ℕ) (d : Reg) (value : Value) (t : Frame) → built_in_of f v ≡ Some value → t ≡ with_value s d value
       → act (Ldgs v d) o f s vars ≡ Goes t vars
-  ldgs v d t some runs e = by (built_in_of f v) runs e
-    where
-      by : (x : Option Value) → on x (λ x. puts s d x some) ≢ Stuck → t ≡ with_content s d x → on x (λ x. puts s d x vars) ≡ Goes t vars
-      by None runs e = absurd (runs refl)
-      by (Some value) runs e = goes_to (with_value s d value) t e
+  ldgs v d value t b e =
+      ap (λ x. on x (λ x. puts s d x vars)) b
+      ∙ goes_to (with_value s d value) t e
 
   pub call : (function : Function) (d : Reg) (value : Value) (t : Frame) → call_of function s.tuple ≡ Some value → t ≡ with_value s d value
       → act (Call function d) o f s vars ≡ Goes t vars
@@ -150,19 +146,35 @@ module _ (o : Object) (f : Firing) (s : Frame) (vars : Variables) where
       ap (λ x. on x (λ value. puts s d value vars)) c
       ∙ goes_to (with_value s d value) t e
 
-  pub ret : (a : Reg) (some : Variables) → act (Ret a) o f s some ≢ Stuck
-      → (value : Value) × (at s.registers a ≡ Some value) × (act (Ret a) o f s vars ≡ Ends value vars)
-  ret a some runs = by (at s.registers a) refl runs
+  -- the same where the value is only known to be there
+  pub ldgs_some : (v : ℕ) (d : Reg) (t : Frame) → built_in_of f v ≢ None → ((value : Value) → built_in_of f v ≡ Some value → t ≡ with_value s d value)
+      → act (Ldgs v d) o f s vars ≡ Goes t vars
+  ldgs_some v d t there e = by (built_in_of f v) refl
     where
-      by : (x : Option Value) → at s.registers a ≡ x → on x (λ value. Ends value some) ≢ Stuck
-          → (value : Value) × (at s.registers a ≡ Some value) × (act (Ret a) o f s vars ≡ Ends value vars)
-      by None e runs = absurd (runs refl)
-      by (Some value) e runs = (value, e, ap (λ x. on x (λ value. Ends value vars)) e)
+      by : (x : Option Value) → built_in_of f v ≡ x → act (Ldgs v d) o f s vars ≡ Goes t vars
+      by None b = absurd (there b)
+      by (Some value) b = ldgs v d value t b (e value b)
+
+  pub call_some : (function : Function) (d : Reg) (t : Frame) (some : Variables) → act (Call function d) o f s some ≢ Stuck
+      → ((value : Value) → call_of function s.tuple ≡ Some value → t ≡ with_value s d value)
+      → act (Call function d) o f s vars ≡ Goes t vars
+  call_some function d t some runs e = by (call_of function s.tuple) refl
+    where
+      by : (x : Option Value) → call_of function s.tuple ≡ x → act (Call function d) o f s vars ≡ Goes t vars
+      by None b = absurd (runs (ap (λ x. on x (λ value. puts s d value some)) b))
+      by (Some value) b = call function d value t b (e value b)
+
+  -- a value that is stored is of the variable's kind
+  pub kind_stored : (k : Kind) (a : Reg) (value : Value) (go : Value → Next) → at s.registers a ≡ Some value → on_kind k (at s.registers a) go ≢ Stuck → kind_of value ≡ k
+  kind_stored k a value go p runs = kind_fits k value go (λ h. runs (ap (λ v. on_kind k v go) p ∙ h))
+
+  pub kind_stored_at : (k : Kind) (a : Reg) (value : Value) (go : Value → Next) → at s.registers a ≡ Some value → on_key s.tuple (on_kind k (at s.registers a) go) ≢ Stuck → kind_of value ≡ k
+  kind_stored_at k a value go p runs = kind_stored k a value go p (keyed s.tuple (on_kind k (at s.registers a) go) runs)
+
+  pub ret : (a : Reg) (value : Value) → at s.registers a ≡ Some value → act (Ret a) o f s vars ≡ Ends value vars
+  ret a value p = ap (λ x. on x (λ value. Ends value vars)) p
 
   -- ---- branches
-
-  pub ba : (to : ℕ) (t : Frame) → t ≡ at_index s to → act (Ba to) o f s vars ≡ Goes t vars
-  ba to t e = goes_to (at_index s to) t e
 
   pub branch : (condition : Condition) (to : ℕ) (known : Comparison) (t : Frame) → s.comparison ≡ Some known → t ≡ at_index s (cond (holds condition known) to (s.pc + 1))
       → act (Branch condition to) o f s vars ≡ Goes t vars
@@ -170,32 +182,32 @@ module _ (o : Object) (f : Firing) (s : Frame) (vars : Variables) where
       ap (λ x. on x (λ known. Goes (at_index s (cond (holds condition known) to (s.pc + 1))) vars)) k
       ∙ goes_to (at_index s (cond (holds condition known) to (s.pc + 1))) t e
 
-  pub nop : (t : Frame) → t ≡ at_index s (s.pc + 1) → act Nop o f s vars ≡ Goes t vars
-  nop t e = goes_to (at_index s (s.pc + 1)) t e
-
   -- ---- the tuple
 
-  pub pushtr : (a : Reg) (t : Frame) (some : Variables) → act (Pushtr a) o f s some ≢ Stuck → t ≡ with_tuple s (s.tuple ++ part_of_cell (at s.registers a) ∷ [])
+  -- the word that is pushed is of the kind that the instruction says
+  pub pushtr : (a : Reg) (value : Value) (t : Frame) (some : Variables) → act (Pushtr a) o f s some ≢ Stuck → at s.registers a ≡ Some value → t ≡ with_tuple s (s.tuple ++ part_of value ∷ [])
       → act (Pushtr a) o f s vars ≡ Goes t vars
-  pushtr a t some runs e = by (at s.registers a) runs e
+  pushtr a value t some runs p e =
+      ap (λ v. on_text v (λ bytes. pushes s (Name bytes) vars)) p
+      ∙ by value (λ h. runs (ap (λ v. on_text v (λ bytes. pushes s (Name bytes) some)) p ∙ h)) e
     where
-      by : (v : Option Value) → on_text v (λ bytes. pushes s (Name bytes) some) ≢ Stuck → t ≡ with_tuple s (s.tuple ++ part_of_cell v ∷ [])
-          → on_text v (λ bytes. pushes s (Name bytes) vars) ≡ Goes t vars
-      by None runs e = absurd (runs refl)
-      by (Some (Int n)) runs e = absurd (runs refl)
-      by (Some (Text x)) runs e =
+      by : (v : Value) → on_text (Some v) (λ bytes. pushes s (Name bytes) some) ≢ Stuck → t ≡ with_tuple s (s.tuple ++ part_of v ∷ [])
+          → on_text (Some v) (λ bytes. pushes s (Name bytes) vars) ≡ Goes t vars
+      by (Int n) runs e = absurd (runs refl)
+      by (Text x) runs e =
           fits_8 (nat_lt (length s.tuple) 8) (Goes (with_tuple s (s.tuple ++ Name x ∷ [])) some) _ runs
           ∙ goes_to (with_tuple s (s.tuple ++ Name x ∷ [])) t e
 
-  pub pushtv : (a : Reg) (t : Frame) (some : Variables) → act (Pushtv a) o f s some ≢ Stuck → t ≡ with_tuple s (s.tuple ++ part_of_cell (at s.registers a) ∷ [])
+  pub pushtv : (a : Reg) (value : Value) (t : Frame) (some : Variables) → act (Pushtv a) o f s some ≢ Stuck → at s.registers a ≡ Some value → t ≡ with_tuple s (s.tuple ++ part_of value ∷ [])
       → act (Pushtv a) o f s vars ≡ Goes t vars
-  pushtv a t some runs e = by (at s.registers a) runs e
+  pushtv a value t some runs p e =
+      ap (λ v. on_number v (λ n. pushes s (Number (cast_signed w64 n)) vars)) p
+      ∙ by value (λ h. runs (ap (λ v. on_number v (λ n. pushes s (Number (cast_signed w64 n)) some)) p ∙ h)) e
     where
-      by : (v : Option Value) → on_number v (λ n. pushes s (Number (cast_signed w64 n)) some) ≢ Stuck → t ≡ with_tuple s (s.tuple ++ part_of_cell v ∷ [])
-          → on_number v (λ n. pushes s (Number (cast_signed w64 n)) vars) ≡ Goes t vars
-      by None runs e = absurd (runs refl)
-      by (Some (Text x)) runs e = absurd (runs refl)
-      by (Some (Int n)) runs e =
+      by : (v : Value) → on_number (Some v) (λ n. pushes s (Number (cast_signed w64 n)) some) ≢ Stuck → t ≡ with_tuple s (s.tuple ++ part_of v ∷ [])
+          → on_number (Some v) (λ n. pushes s (Number (cast_signed w64 n)) vars) ≡ Goes t vars
+      by (Text x) runs e = absurd (runs refl)
+      by (Int n) runs e =
           fits_8 (nat_lt (length s.tuple) 8) (Goes (with_tuple s (s.tuple ++ Number (cast_signed w64 n) ∷ [])) some) _ runs
           ∙ goes_to (with_tuple s (s.tuple ++ Number (cast_signed w64 n) ∷ [])) t e
 
@@ -221,21 +233,20 @@ module _ (o : Object) (f : Firing) (s : Frame) (vars : Variables) where
 
   -- ---- variables
 
-  pub ldts : (x : Var) (d : Reg) (value : Value) (key : List KeyPart) (t : Frame) → key ≡ [] → value ≡ own_value vars x key → t ≡ with_content s d (Some value)
+  pub ldts : (x : Var) (d : Reg) (value : Value) (t : Frame) → value ≡ own_value vars x [] → t ≡ with_value s d value
       → act (Ldts x d) o f s vars ≡ Goes t vars
-  ldts x d value key t k w e =
-      ap (λ key. puts s d (own_value vars x key) vars) (sym k)
-      ∙ ap (λ value. puts s d value vars) (sym w)
+  ldts x d value t w e =
+      ap (λ value. puts s d value vars) (sym w)
       ∙ goes_to (with_value s d value) t e
 
-  pub ldls : (x : Var) (d : Reg) (value : Value) (t : Frame) → value ≡ local_in vars x → t ≡ with_content s d (Some value)
+  pub ldls : (x : Var) (d : Reg) (value : Value) (t : Frame) → value ≡ local_in vars x → t ≡ with_value s d value
       → act (Ldls x d) o f s vars ≡ Goes t vars
   ldls x d value t w e =
       ap (λ value. puts s d value vars) (sym w)
       ∙ goes_to (with_value s d value) t e
 
   pub ldtaa : (x : Var) (d : Reg) (value : Value) (t : Frame) (some : Variables) → act (Ldtaa x d) o f s some ≢ Stuck
-      → value ≡ own_value vars x s.tuple → t ≡ with_content s d (Some value)
+      → value ≡ own_value vars x s.tuple → t ≡ with_value s d value
       → act (Ldtaa x d) o f s vars ≡ Goes t vars
   ldtaa x d value t some runs w e =
       key_is s.tuple (puts s d (own_value some x s.tuple) some) _ runs
@@ -246,22 +257,21 @@ module _ (o : Object) (f : Firing) (s : Frame) (vars : Variables) where
     stored other go runs =
         ap (λ v. on_kind x.kind v go) p ∙ kind_is x.kind value other go (λ h. runs (ap (λ v. on_kind x.kind v other) p ∙ h))
 
-    pub stls : (locals : Var → Value) → act (Stls x a) o f s some ≢ Stuck → locals ≡ with_local vars.locals x value
-        → act (Stls x a) o f s vars ≡ Goes t (record { locals = locals; own = vars.own })
-    stls locals runs w =
+    pub stls : (after : Variables) → act (Stls x a) o f s some ≢ Stuck → after ≡ set_local vars x value
+        → act (Stls x a) o f s vars ≡ Goes t after
+    stls after runs w =
         stored (store_local s some x) (store_local s vars x) runs
-        ∙ ap (λ t. Goes t (set_local vars x value)) (sym e) ∙ ap (λ l. Goes t (record { locals = l; own = vars.own })) (sym w)
+        ∙ ap (λ t. Goes t (set_local vars x value)) (sym e) ∙ ap (Goes t) (sym w)
 
-    pub stts : (own : Var → List KeyPart → Value) (key : List KeyPart) → act (Stts x a) o f s some ≢ Stuck → key ≡ [] → own ≡ with_own vars.own x key value
-        → act (Stts x a) o f s vars ≡ Goes t (record { locals = vars.locals; own = own })
-    stts own key runs n w =
+    pub stts : (after : Variables) → act (Stts x a) o f s some ≢ Stuck → after ≡ set_own vars x [] value
+        → act (Stts x a) o f s vars ≡ Goes t after
+    stts after runs w =
         stored (store_own s some x []) (store_own s vars x []) runs
-        ∙ ap (λ t. Goes t (set_own vars x [] value)) (sym e)
-        ∙ ap (λ key. Goes t (set_own vars x key value)) (sym n) ∙ ap (λ own. Goes t (record { locals = vars.locals; own = own })) (sym w)
+        ∙ ap (λ t. Goes t (set_own vars x [] value)) (sym e) ∙ ap (Goes t) (sym w)
 
-    pub sttaa : (own : Var → List KeyPart → Value) → act (Sttaa x a) o f s some ≢ Stuck → own ≡ with_own vars.own x s.tuple value
-        → act (Sttaa x a) o f s vars ≡ Goes t (record { locals = vars.locals; own = own })
-    sttaa own runs w =
+    pub sttaa : (after : Variables) → act (Sttaa x a) o f s some ≢ Stuck → after ≡ set_own vars x s.tuple value
+        → act (Sttaa x a) o f s vars ≡ Goes t after
+    sttaa after runs w =
         key_is s.tuple (on_kind x.kind (at s.registers a) (store_own s some x s.tuple)) _ runs
         ∙ stored (store_own s some x s.tuple) (store_own s vars x s.tuple) (keyed s.tuple (on_kind x.kind (at s.registers a) (store_own s some x s.tuple)) runs)
-        ∙ ap (λ t. Goes t (set_own vars x s.tuple value)) (sym e) ∙ ap (λ own. Goes t (record { locals = vars.locals; own = own })) (sym w)
+        ∙ ap (λ t. Goes t (set_own vars x s.tuple value)) (sym e) ∙ ap (Goes t) (sym w)

@@ -46,3 +46,8 @@ module _ (o : Object) (f : Firing) where
   pub ends_refused : (vars after : Variables) (value : Value) (r : Result Value MachineFault) → IsErrAnd r (λ e. e ≡ Memory) → Runs o f vars (Returns value after) → RunEnds o f vars r after
   ends_refused vars after value (Ok other) e run = absurd e
   ends_refused vars after value (Err fault) e run = subst (λ x. RunEnds o f vars (Err x) after) (sym e) (arrives start vars after value run)
+
+  -- and before it
+  pub refused_first : (vars : Variables) (r : Result Value MachineFault) → IsErrAnd r (λ e. e ≡ Memory) → RunEnds o f vars r vars
+  refused_first vars (Ok other) e = absurd e
+  refused_first vars (Err fault) e = subst (λ x. RunEnds o f vars (Err x) vars) (sym e) (start, stays)

@@ -1,17 +1,26 @@
--- What cells hold, read and written.
-use Rattle.std.specs.Prelude.{◌≡◌, ◌≢◌, ◌<◌, ◌+◌, ℕ, List, length, Option, None, slice_index_or}
-use Rattle.std.specs.Prelude.{slice_set}
-use Rattle.std.proofs.Common.{refl, sym, ap, ◌∙◌, arith}
-use Rattle.std.proofs.lemmas.List.{map-set, get_or-map}
+-- Words as they are held, read and written.
+use Rattle.std.specs.Prelude.{◌≡◌, ◌≢◌, ◌<◌, ◌+◌, ◌∷◌, [], ℕ, zero, suc, List, length, Option, None, Some}
+use Rattle.std.specs.Prelude.{IfSome, map, option_map, slice_get, slice_index_or, slice_set}
+use Rattle.std.proofs.Common.{refl, sym, ap, ◌∙◌, subst, arith}
+use Rattle.std.proofs.lemmas.Option.{slice_get_within, get_or_from_slice_get}
+use Rattle.std.specs.List.{All}
+use Rattle.std.proofs.Math.ListN.{get_or-map}
+use Rattle.std.proofs.lemmas.List.{map-set}
+use Rattle.std.proofs.lemmas.List.Elements.{All-weaker}
+use Rattle.numbered.specs.declared.word.Word.{Word}
+use Rattle.numbered.specs.declared.word.Word.TheVariants as word
+use Rattle.numbered.specs.Texts.{AreDistinct, IsNumberOf, Keeps, text_at}
+use Rattle.d_values.specs.Keys.{part_of}
 use Rattle.dif_validate.specs.Registers.{register_number}
 use Rattle.dif_validate.specs.declared.register.Reg.TheVariants.{R0, R1, R2, R3, R4, R5, R6, R7}
 use Rattle.dif_validate.proofs.Writes.{put_set}
-use Rattle.dif_machine.specs.declared.held.Cell.{Cell}
-use Rattle.dif_machine.specs.declared.held.Held.{Held}
-use Rattle.dif_machine.specs.declared.held.Held.TheVariants as held
-use Rattle.dif_machine.specs.Vocabulary.{Firing, Object, Reg, at, put, Value}
-use Rattle.dif_machine.specs.Frames.{Frame, with_content}
-use Rattle.dif_machine.specs.Held.{content, contents, held_value}
+use Rattle.dif_machine.specs.Vocabulary.{Comparison, Firing, Reg, at, put, Value, Text}
+use Rattle.dif_machine.specs.CellLaws.{value_kept}
+use Rattle.dif_machine.specs.Frames.{Frame, at_index, with_register}
+use Rattle.dif_machine.specs.Machine.{contents, content_of, found_of, key_in, value_of, AreNumbers, IsWithin, IsContentWithin}
+use Rattle.dif_machine.specs.Machine.{IsSound, Knows}
+use Rattle.dif_machine.specs.declared.content.Content.{Content}
+use Rattle.dif_machine.specs.declared.content.Content.TheVariants as content
 
 pub not_first : (d : Reg) → (d ≡ R0 → ⊥) → register_number d ≢ 0
 not_first R0 h = absurd (h refl)
@@ -25,23 +34,86 @@ not_first R7 h = λ e. omega (arith, e)
 
 -- a frame after a write
 pub with_registers : (s : Frame) (d : Reg) (registers : List (Option Value)) (x : Option Value) → registers ≡ put s.registers d x
-    → record { pc = s.pc + 1; registers = registers; comparison = s.comparison; tuple = s.tuple } ≡ with_content s d x
-with_registers s d registers x e = ap (λ r. record { pc = s.pc + 1; registers = r; comparison = s.comparison; tuple = s.tuple }) e
+    → record { pc = s.pc; registers = registers; comparison = s.comparison; tuple = s.tuple } ≡ with_register s d x
+with_registers s d registers x e = ap (λ r. record { pc = s.pc; registers = r; comparison = s.comparison; tuple = s.tuple }) e
 
-module _ (o : Object) (f : Firing) where
-  -- but for a text of the cell's own, its text is not asked for
-  pub elsewhere : (a b : List ℕ) (h : Held) → h ≢ held.Own → held_value o f a h ≡ held_value o f b h
-  elsewhere a b held.Unset own = refl
-  elsewhere a b (held.Int word) own = refl
-  elsewhere a b (held.Constant i) own = refl
-  elsewhere a b (held.BuiltIn v) own = refl
-  elsewhere a b held.Own own = absurd (own refl)
+-- at the next index
+pub at_next : (s t : Frame) (next index : ℕ) → next ≡ index + 1 → s ≡ t → at_index s next ≡ at_index t (index + 1)
+at_next s t next index e same i = at_index (same i) (e i)
 
-  pub at_content : (cells : List Cell) (a : Reg) (d : Cell) → register_number a < length cells → at (contents o f cells) a ≡ content o f (slice_index_or cells (register_number a) d)
-  at_content cells a d inside = get_or-map (content o f) cells (register_number a) d None inside
+-- what is known of a firing stays so
+pub still_known : (f : Firing) (old new : List (Option (List ℕ))) → new ≡ old → Knows f old → Knows f new
+still_known f old new e = subst (Knows f) (sym e)
 
-  pub put_content : (cells : List Cell) (d : Reg) (cell : Cell) (x : Option Value) → register_number d ≢ 0 → content o f cell ≡ x → contents o f (slice_set cells (register_number d) cell) ≡ put (contents o f cells) d x
-  put_content cells d cell x other e =
-      map-set (content o f) cells (register_number d) cell
-      ∙ ap (slice_set (contents o f cells) (register_number d)) e
-      ∙ sym (put_set (contents o f cells) d x other)
+module _ (texts : List (List ℕ)) where
+  pub at_content : (cells : List Content) (a : Reg) → at (contents texts cells) a ≡ content_of texts (slice_index_or cells (register_number a) content.Unset)
+  at_content cells a = get_or-map (content_of texts) cells (register_number a) content.Unset
+
+  pub put_content : (cells : List Content) (d : Reg) (c : Content) (x : Option Value) → content_of texts c ≡ x → register_number d ≢ 0 → contents texts (slice_set cells (register_number d) c) ≡ put (contents texts cells) d x
+  put_content cells d c x e other =
+      map-set (content_of texts) cells (register_number d) c
+      ∙ ap (slice_set (contents texts cells) (register_number d)) e
+      ∙ sym (put_set (contents texts cells) d x other)
+
+-- ---- more texts
+
+pub keeps_refl : (texts : List (List ℕ)) → Keeps texts texts
+keeps_refl texts = record { long = omega arith; same = λ n h. refl; distinct = λ d. d }
+
+pub keeps_same : (old new : List (List ℕ)) → new ≡ old → Keeps old new
+keeps_same old new e = record { long = omega (arith, ap length e); same = λ n h. ap (λ t. text_at t n) e; distinct = λ d. subst AreDistinct (sym e) d }
+
+pub keeps_on : (first old new : List (List ℕ)) → Keeps first old → Keeps old new → Keeps first new
+keeps_on first old new a b = record {
+  long = omega (arith, a.long, b.long);
+  same = λ n h. b.same n (omega (arith, a.long)) ∙ a.same n h;
+  distinct = λ d. b.distinct (a.distinct d);
+}
+
+module _ (old new : List (List ℕ)) (kept : Keeps old new) where
+  pub content_within : (c : Content) → IsContentWithin old c → IsContentWithin new c
+  content_within content.Unset h = tt
+  content_within (content.Int n) h = h
+  content_within (content.Text n) h = omega (arith, h, kept.long)
+
+  content_kept : (c : Content) → IsContentWithin old c → content_of new c ≡ content_of old c
+  content_kept content.Unset h = refl
+  content_kept (content.Int n) h = refl
+  content_kept (content.Text n) h = ap (λ t. Some (Text t)) (kept.same n h)
+
+  number_within_more : (n : Option ℕ) → IfSome n (λ n. n < length old) → IfSome n (λ n. n < length new)
+  number_within_more None h = h
+  number_within_more (Some n) h = omega (arith, h, kept.long)
+
+  pub numbers_kept : (numbers : List (Option ℕ)) → AreNumbers old numbers → AreNumbers new numbers
+  numbers_kept numbers all = All-weaker (λ n. IfSome n (λ n. n < length old)) (λ n. IfSome n (λ n. n < length new)) number_within_more numbers all
+
+  map_kept : {X Y : Type 0} (P : X → Type 0) (f g : X → Y) → ((x : X) → P x → f x ≡ g x) → (xs : List X) → All P xs → map f xs ≡ map g xs
+  map_kept P f g same [] all = refl
+  map_kept P f g same (x ∷ xs) all = ap (λ y. y ∷ map f xs) (same x (all 0 x (omega arith))) ∙ ap (λ ys. g x ∷ ys) (map_kept P f g same xs (λ k d h. all (suc k) d (omega (arith, h))))
+
+  contents_kept : (cells : List Content) → All (IsContentWithin old) cells → contents new cells ≡ contents old cells
+  contents_kept cells all = map_kept (IsContentWithin old) (content_of new) (content_of old) content_kept cells all
+
+  found_same : (n : Option ℕ) → IfSome n (λ n. n < length old) → option_map (text_at new) n ≡ option_map (text_at old) n
+  found_same None h = refl
+  found_same (Some n) h = ap Some (kept.same n h)
+
+  pub found_kept : (numbers : List (Option ℕ)) → AreNumbers old numbers → found_of new numbers ≡ found_of old numbers
+  found_kept numbers all = map_kept (λ n. IfSome n (λ n. n < length old)) (option_map (text_at new)) (option_map (text_at old)) found_same numbers all
+
+  pub key_kept : (words : List Word) → All (IsWithin old) words → key_in new words ≡ key_in old words
+  key_kept words all = map_kept (IsWithin old) (λ w. part_of (value_of new w)) (λ w. part_of (value_of old w)) (λ w h. ap part_of (value_kept old new kept w h)) words all
+
+  pub frame_kept : (cells : List Content) (known : Option Comparison) (words : List Word) (numbers : List (Option ℕ)) → IsSound old cells words numbers
+      → ◌≡◌ {A = Frame} (record { pc = 0; registers = contents new cells; comparison = known; tuple = key_in new words }) (record { pc = 0; registers = contents old cells; comparison = known; tuple = key_in old words })
+  frame_kept cells known words numbers s =
+      let registers = contents_kept cells s.registers in
+      let tuple = key_kept words s.tuple in
+      λ i. record { pc = 0; registers = registers i; comparison = known; tuple = tuple i }
+
+pub number_within : (texts : List (List ℕ)) (n : ℕ) (bytes : List ℕ) → IsNumberOf texts n bytes → n < length texts
+number_within texts n bytes e = slice_get_within texts n bytes e
+
+pub number_text : (texts : List (List ℕ)) (n : ℕ) (bytes : List ℕ) → IsNumberOf texts n bytes → text_at texts n ≡ bytes
+number_text texts n bytes e = get_or_from_slice_get texts n bytes [] e

@@ -1,12 +1,14 @@
 pub mod Fitting
-pub mod Holding
 pub mod Progress
 pub mod Ending
+pub mod Knowing
+pub mod Holding
+pub mod Loading
+pub mod Cells
 pub mod Acting
 pub mod Executing
+pub mod Underway
 pub mod Changing
-pub mod Clearing
 pub mod Arriving
-pub mod Loading
 pub mod BuiltIns
 pub mod Numbers

@@ -1,12 +1,13 @@
 -- Runs of objects that load one value and return it.
-use Rattle.std.specs.Prelude.{◌≡◌, ℕ, Option, Some, None, IfSome, slice_get}
-use Rattle.std.proofs.Common.{ap, ◌∙◌}
-use Rattle.dif_machine.specs.Vocabulary.{Firing, Instr, Ldga, Ret, Object, Value, ValueRef}
-use Rattle.dif_machine.specs.Vocabulary.{Int, lent_value, Variables}
+use Rattle.std.specs.Prelude.{◌≡◌, ◌≢◌, ℕ, List, [], Option, Some, None, slice_get}
+use Rattle.std.proofs.Common.{refl, sym, ap, ◌∙◌}
+use Rattle.numbered.specs.declared.word.Word.{Word}
+use Rattle.dif_machine.specs.Vocabulary.{Firing, Instr, Ldga, Ldgs, Ldls, Ldts, Ret, Object, Value, Int, Var, Variables}
 use Rattle.dif_machine.specs.Frames.{Frame, start, with_value}
+use Rattle.dif_machine.specs.Machine.{IsWithin, IsWordOf, value_of}
 use Rattle.dif_machine.specs.Runs.{Returns, ends, goes, Runs}
-use Rattle.dif_machine.specs.Semantics.{Goes, on, act, step_of}
-use Rattle.dif_machine.specs.Sources.{argument_of}
+use Rattle.dif_machine.specs.Semantics.{Goes, on, act, puts, step_of}
+use Rattle.dif_machine.specs.Sources.{argument_of, built_in_of, local_in, own_value}
 use Rattle.dif_validate.specs.declared.register.Reg.TheVariants.{R1}
 
 -- the step of an instruction that is known
@@ -16,20 +17,6 @@ step_is o f s i vars there = ap (λ c. on c (λ i. act i o f s vars)) there
 loads : (o : Object) (f : Firing) (i : Instr) (value : Value) (vars : Variables) → slice_get o.code 0 ≡ Some i → slice_get o.code 1 ≡ Some (Ret R1) → act i o f start vars ≡ Goes (with_value start R1 value) vars → Runs o f vars (Returns value vars)
 loads o f i value vars first second e =
     goes (with_value start R1 value) vars (step_is o f start i vars first ∙ e) (ends value vars (step_is o f (with_value start R1 value) (Ret R1) vars second))
-
--- and where the load is known by what it lends, if anything
-pub loads_lent : (o : Object) (f : Firing) (i : Instr) (lent : Option ValueRef) (vars : Variables) → slice_get o.code 0 ≡ Some i → slice_get o.code 1 ≡ Some (Ret R1)
-    → IfSome lent (λ x. act i o f start vars ≡ Goes (with_value start R1 (lent_value x)) vars)
-    → IfSome lent (λ x. Runs o f vars (Returns (lent_value x) vars))
-loads_lent o f i None vars first second e = tt
-loads_lent o f i (Some lent) vars first second e = loads o f i (lent_value lent) vars first second e
-
--- for all variables
-pub loads_always : (o : Object) (f : Firing) (i : Instr) (lent : Option ValueRef) → slice_get o.code 0 ≡ Some i → slice_get o.code 1 ≡ Some (Ret R1)
-    → IfSome lent (λ x. (vars : Variables) → act i o f start vars ≡ Goes (with_value start R1 (lent_value x)) vars)
-    → IfSome lent (λ x. (vars : Variables) → Runs o f vars (Returns (lent_value x) vars))
-loads_always o f i None first second e = tt
-loads_always o f i (Some lent) first second e = λ vars. loads o f i (lent_value lent) vars first second (e vars)
 
 -- a number is loaded, and then the argument of this number
 pub loads_argument : (o : Object) (f : Firing) (i : Instr) (n : ℕ) (vars : Variables) → slice_get o.code 0 ≡ Some i → slice_get o.code 1 ≡ Some (Ldga 0 R1 R1) → slice_get o.code 2 ≡ Some (Ret R1)
@@ -41,3 +28,27 @@ loads_argument o f i n vars first second third e =
     goes number vars (step_is o f start i vars first ∙ e)
     (goes there vars (step_is o f number (Ldga 0 R1 R1) vars second)
     (ends (Int (argument_of f n)) vars (step_is o f there (Ret R1) vars third)))
+
+module _ (o : Object) (f : Firing) (texts : List (List ℕ)) (w : Word) (vars : Variables) where
+  put_is : (x : Option Value) → x ≢ None → ((value : Value) → x ≡ Some value → IsWordOf texts w value) → on x (λ value. puts start R1 value vars) ≡ Goes (with_value start R1 (value_of texts w)) vars
+  put_is None there is = absurd (there refl)
+  put_is (Some value) there is = ap (λ value. puts start R1 value vars) (sym (is value refl).is)
+
+  pub loads_built_in : (v : ℕ) → slice_get o.code 0 ≡ Some (Ldgs v R1) → slice_get o.code 1 ≡ Some (Ret R1) → built_in_of f v ≢ None → ((value : Value) → built_in_of f v ≡ Some value → IsWordOf texts w value)
+      → Runs o f vars (Returns (value_of texts w) vars)
+  loads_built_in v first second there is = loads o f (Ldgs v R1) (value_of texts w) vars first second (put_is (built_in_of f v) there is)
+
+  pub loads_local : (x : Var) → slice_get o.code 0 ≡ Some (Ldls x R1) → slice_get o.code 1 ≡ Some (Ret R1) → IsWordOf texts w (local_in vars x)
+      → Runs o f vars (Returns (value_of texts w) vars)
+  loads_local x first second is = loads o f (Ldls x R1) (value_of texts w) vars first second (ap (λ value. puts start R1 value vars) (sym is.is))
+
+  pub loads_scalar : (x : Var) → slice_get o.code 0 ≡ Some (Ldts x R1) → slice_get o.code 1 ≡ Some (Ret R1) → IsWordOf texts w (own_value vars x [])
+      → Runs o f vars (Returns (value_of texts w) vars)
+  loads_scalar x first second is = loads o f (Ldts x R1) (value_of texts w) vars first second (ap (λ value. puts start R1 value vars) (sym is.is))
+
+  within_is : (x : Option Value) → x ≢ None → ((value : Value) → x ≡ Some value → IsWordOf texts w value) → IsWithin texts w
+  within_is None there is = absurd (there refl)
+  within_is (Some value) there is = (is value refl).within
+
+  pub built_in_within : (v : ℕ) → built_in_of f v ≢ None → ((value : Value) → built_in_of f v ≡ Some value → IsWordOf texts w value) → IsWithin texts w
+  built_in_within v there is = within_is (built_in_of f v) there is

@@ -31,29 +31,38 @@ at_index s pc = record {
   tuple = s.tuple;
 }
 
-abbrev pub with_content : Frame → Reg → Option Value → Frame
-with_content s d content = record {
-  pc = s.pc + 1;
+-- with what a register holds
+abbrev pub with_register : Frame → Reg → Option Value → Frame
+with_register s d content = record {
+  pc = s.pc;
   registers = put s.registers d content;
   comparison = s.comparison;
   tuple = s.tuple;
 }
 
-abbrev pub with_value : Frame → Reg → Value → Frame
-with_value s d value = with_content s d (Some value)
-
-abbrev pub with_comparison : Frame → Comparison → Frame
-with_comparison s known = record {
-  pc = s.pc + 1;
+abbrev pub with_known : Frame → Comparison → Frame
+with_known s known = record {
+  pc = s.pc;
   registers = s.registers;
   comparison = Some known;
   tuple = s.tuple;
 }
 
-abbrev pub with_tuple : Frame → List KeyPart → Frame
-with_tuple s tuple = record {
-  pc = s.pc + 1;
+abbrev pub with_parts : Frame → List KeyPart → Frame
+with_parts s tuple = record {
+  pc = s.pc;
   registers = s.registers;
   comparison = s.comparison;
   tuple = tuple;
 }
+
+-- ---- and on to the next instruction
+
+abbrev pub with_value : Frame → Reg → Value → Frame
+with_value s d value = at_index (with_register s d (Some value)) (s.pc + 1)
+
+abbrev pub with_comparison : Frame → Comparison → Frame
+with_comparison s known = at_index (with_known s known) (s.pc + 1)
+
+abbrev pub with_tuple : Frame → List KeyPart → Frame
+with_tuple s tuple = at_index (with_parts s tuple) (s.pc + 1)

@@ -3,8 +3,10 @@ pub mod Operators
 pub mod Plain
 pub mod Sources
 pub mod Kinds
-pub mod Held
 pub mod Frames
+pub mod Machine
+pub mod Cells
+pub mod CellLaws
 pub mod Known
 pub mod Semantics
 pub mod Runs

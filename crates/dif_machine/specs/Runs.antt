@@ -3,7 +3,7 @@
 -- 2004), on DIF.
 use Rattle.std.specs.Prelude.{◌≡◌, ◌≤◌, ℕ, suc, length, Result, Ok, Err}
 use Rattle.dif_machine.specs.Vocabulary.{Firing, MachineFault, DivideByZero, Memory, Object, Value}
-use Rattle.dif_machine.specs.Vocabulary.{ValueRef, lent_value, Variables}
+use Rattle.dif_machine.specs.Vocabulary.{Variables}
 use Rattle.dif_machine.specs.Frames.{Frame, start}
 use Rattle.dif_machine.specs.Semantics.{Next, Goes, Ends, Faults, step_of}
 
@@ -46,11 +46,6 @@ abbrev pub RunEnds : Object → Firing → Variables → Result Value MachineFau
 RunEnds o f vars (Ok value) after = Runs o f vars (Returns value after)
 RunEnds o f vars (Err DivideByZero) after = Runs o f vars (Divides after)
 RunEnds o f vars (Err Memory) after = (s : Frame) × Comes o f start vars s after
-
--- a borrowed result
-abbrev pub value_result : {E : Type 0} → Result ValueRef E → Result Value E
-value_result (Ok lent) = Ok (lent_value lent)
-value_result (Err e) = Err e
 
 -- how many steps a run makes
 abbrev pub steps : {o : Object} {f : Firing} {s : Frame} {vars : Variables} {end : End}

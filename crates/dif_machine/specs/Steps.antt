@@ -1,6 +1,4 @@
 -- What private functions alone say of their steps. No contract for callers rests on these
 -- definitions.
-pub mod Held
-pub mod Runs
 pub mod Semantics
 pub mod Instructions

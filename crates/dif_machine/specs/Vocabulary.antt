@@ -53,7 +53,6 @@ pub use Rattle.dif_validate.specs.declared.instruction.Operator.TheVariants.{Sra
 pub use Rattle.dif_validate.specs.declared.instruction.Operator.TheVariants.{Sdiv, Udiv, Srem, Urem}
 pub use Rattle.dif_validate.specs.declared.register.Reg.{Reg}
 pub use Rattle.dif_validate.specs.declared.object.Difo.{Difo}
-pub use Rattle.dif_machine.specs.declared.frame.Frame.{Frame as FrameInMemory}
 pub use Rattle.dif_machine.specs.declared.comparing.Comparison.{Comparison}
 pub use Rattle.dif_machine.specs.declared.fault.MachineFault.{MachineFault}
 pub use Rattle.dif_machine.specs.declared.fault.MachineFault.TheVariants.{DivideByZero, Memory}

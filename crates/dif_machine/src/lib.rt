@@ -1,28 +1,23 @@
 //! The machine that runs valid DIF objects.
 #![tactic(auto)]
 
+mod built_in;
 mod comparing;
-mod context;
+mod content;
 mod fault;
-mod frame;
-mod held;
-mod keys;
+mod lane_memory;
 pub mod laws;
-mod loads;
+mod machine;
+mod memory;
+mod onward;
 mod operating;
 mod running;
-mod sources;
 mod stepping;
-mod tuple;
+mod tables;
 
-pub use fault::MachineFault;
-pub use frame::Frame;
-pub use keys::key_of_zeros;
-pub use loads::lent_load;
-pub use running::{run, run_in};
-
-// The parts of a frame. No caller needs them: they are public since definitions speak of them.
 pub use comparing::Comparison;
-pub use held::{Cell, Held};
-pub use keys::LastKey;
-pub use tuple::Tuple;
+pub use fault::MachineFault;
+pub use lane_memory::LaneMemory;
+pub use machine::Machine;
+pub use memory::Memory;
+pub use running::{run, run_on};

@@ -1,132 +1,97 @@
 //! Whole runs.
 
-ghost use Rattle.std.specs.Prelude.{◌≡◌, IfSome};
-ghost use Rattle.dif_validate.specs.declared.register.Reg.TheVariants.{R1};
-ghost use Rattle.dif_machine.specs.{Held.frame_of};
-ghost use Rattle.dif_machine.specs.Vocabulary.{IsValid, NumberKind, kind_of, lent_value};
-ghost use Rattle.dif_machine.specs.Vocabulary.{object_of, variables};
-ghost use Rattle.dif_machine.specs.Frames.{start, with_value};
-ghost use Rattle.dif_machine.specs.Runs.{Returns, RunEnds, Runs, value_result};
-ghost use Rattle.dif_machine.specs.Steps.Runs.{RunLeaves};
-ghost use Rattle.dif_machine.specs.Semantics.{Goes, act};
+ghost use Rattle.std.specs.Prelude.{◌≡◌, IfOk};
+ghost use Rattle.numbered.specs.Texts.{Keeps};
+ghost use Rattle.dif_machine.specs.Vocabulary.{IsValid, object_of, variables};
+ghost use Rattle.dif_machine.specs.Machine.{IsWithin, Knows, word_result};
+ghost use Rattle.dif_machine.specs.Runs.{RunEnds};
 
-use crate::context::Context;
+use crate::built_in::argument;
 use crate::fault::MachineFault;
-use crate::frame::Frame;
-use crate::loads::{instruction, lent_argument, lent_source, returns_at};
-use crate::sources::owned_value;
+use crate::machine::Machine;
+use crate::memory::Memory;
+use crate::onward::Onward;
 use crate::stepping::step;
-use d_values::{ClauseLocals, Key, ThreadTable, Value, ValueRef};
-use dif_validate::{Instr, Reg, ValidDifo};
+use crate::tables::Tables;
+use d_values::{ClauseLocals, ThreadTable, Value};
+use dif_validate::{Difo, Load, ValidDifo};
 use firings::Firing;
-use std::alloc::Global;
+use keyed_hash::HashKey;
+use numbered::Word;
+use std::alloc::{AllocError, Global};
+use std::mem::replace;
 
-// Runs a valid object to its end. The register that is returned holds what the object returns. Not
-// inlined, so that an object that only loads runs without the loop's set-up.
+// Runs a valid object to its end.
 #[inline(never)]
-fn run_to_end(
-    context: Context<'_>,
-    frame: &mut Frame,
-    locals: &mut ClauseLocals,
-    own: &mut ThreadTable,
-) -> Result<Reg, MachineFault>
-    requires { IsValid (object_of context.difo.now) }
-    ensures { RunLeaves (object_of context.entry.difo.now) context.entry.firing.now
-        (variables locals.old own.old) result
-        (frame_of (object_of context.entry.difo.now) context.entry.firing.now frame.new)
-        (variables locals.new own.new) }
+fn run_to_end<M: Memory>(
+    difo: &Difo,
+    firing: &Firing,
+    machine: &mut Machine,
+    memory: &mut M,
+) -> Result<Word, MachineFault>
+    requires valid { IsValid (object_of difo.now) }
+    requires known { Knows firing.now machine.old.known }
+    requires over { M.is_over memory.old machine.old.texts }
+    ensures ends { RunEnds (object_of difo.now) firing.now
+        (M.holds memory.old machine.old.texts) (word_result machine.new.texts result)
+        (M.holds memory.new machine.new.texts) }
+    ensures within { IfOk result (IsWithin machine.new.texts) }
+    ensures kept { Keeps machine.old.texts machine.new.texts }
+    ensures known { Knows firing.now machine.new.known }
+    ensures over { M.is_over memory.new machine.new.texts }
+    ensures beside { M.beside memory.new ≡ M.beside memory.old }
 {
-    frame.restart();
+    machine.restart();
+    let mut index = 0;
     loop {
-        match step(context, frame, locals, own) {
-            Ok(Some(register)) => return Ok(register),
-            Ok(None) => {}
+        match step(difo, firing, index, machine, memory) {
+            Ok(Onward::Goes(next)) => index = next,
+            Ok(Onward::Ends(register)) => return Ok(machine.word(register)),
             Err(fault) => return Err(fault),
         }
     }
 }
 
-// A value that borrows nothing, if it is an integer.
-fn integer_of(value: ValueRef<'_>) -> Option<ValueRef<'static>>
-    ensures { IfSome result (λ lent. (lent_value lent ≡ lent_value value.entry)
-        × (kind_of (lent_value lent) ≡ NumberKind)) }
-{
-    match value {
-        ValueRef::Int(word) => Some(ValueRef::Int(word)),
-        ValueRef::Text(_) => None,
-    }
-}
-
-// The value that an instruction loads into the first free register, if no copy of it is needed.
-#[inline(always)]
-fn source<'a>(
-    alloc: Global,
-    instr: &Instr,
-    context: Context<'a>,
-    locals: &ClauseLocals,
-    own: &ThreadTable,
-) -> Option<ValueRef<'a>>
-    ensures { IfSome result (λ lent.
-        act instr.now (object_of context.entry.difo.now) context.entry.firing.now start
-        (variables locals.now own.now)
-        ≡ Goes (with_value start R1 (lent_value lent)) (variables locals.now own.now)) }
-{
-    if let Instr::Ldls(x, Reg::R1) = *instr {
-        return integer_of(locals.get(x));
-    }
-    if let Instr::Ldts(x, Reg::R1) = *instr {
-        return integer_of(own.get(x, &Key::new(alloc)));
-    }
-    lent_source(instr, context.difo, context.firing)
-}
-
-// The value of an object that only loads it. This needs no frame.
-#[inline(always)]
-fn single_load<'a>(
-    alloc: Global,
-    context: Context<'a>,
-    locals: &ClauseLocals,
-    own: &ThreadTable,
-) -> Option<ValueRef<'a>>
-    ensures { IfSome result (λ lent.
-        Runs (object_of context.entry.difo.now) context.entry.firing.now
-        (variables locals.now own.now) (Returns (lent_value lent) (variables locals.now own.now))) }
-{
-    if !returns_at(context.difo, 1) {
-        return lent_argument(context.difo, context.firing);
-    }
-    let first = instruction(context.difo, 0)?;
-    source(alloc, first, context, locals, own)
-}
-
-/// Runs an object from its first instruction to its end, in a frame that may have served other
-/// runs, and lends what it returns. The variables keep the writes so far, even after a fault.
+/// Runs an object from its first instruction to its end, over words. The variables keep the writes
+/// so far, even after a fault.
 ///
 /// ```text
-/// let mut frame = Frame::new(alloc);
-/// // ldgs 4, r1; ret r1
-/// let value = run_in(&valid, &firing, &mut frame, &mut locals, &mut own)?; // Text(b"cat")
+/// // setx 0, r1; stls n0, r1; ret r1, where the number is 5
+/// let word = run_on(&valid, &firing, &mut machine, &mut memory)?; // Word::Int(5)
 /// ```
 #[inline(always)]
-pub fn run_in<'a>(
-    valid: &'a ValidDifo,
-    firing: &'a Firing,
-    frame: &'a mut Frame,
-    locals: &mut ClauseLocals,
-    own: &mut ThreadTable,
-) -> Result<ValueRef<'a>, MachineFault>
-    ensures { RunEnds valid.now firing.now (variables locals.old own.old)
-        (value_result result) (variables locals.new own.new) }
+pub fn run_on<M: Memory>(
+    valid: &ValidDifo,
+    firing: &Firing,
+    machine: &mut Machine,
+    memory: &mut M,
+) -> Result<Word, MachineFault>
+    requires known { Knows firing.now machine.old.known }
+    requires over { M.is_over memory.old machine.old.texts }
+    ensures ends { RunEnds valid.now firing.now (M.holds memory.old machine.old.texts)
+        (word_result machine.new.texts result) (M.holds memory.new machine.new.texts) }
+    ensures within { IfOk result (IsWithin machine.new.texts) }
+    ensures kept { Keeps machine.old.texts machine.new.texts }
+    ensures known { Knows firing.now machine.new.known }
+    ensures over { M.is_over memory.new machine.new.texts }
+    ensures beside { M.beside memory.new ≡ M.beside memory.old }
 {
-    let context = Context {
-        difo: valid.difo(),
-        firing,
-    };
-    if let Some(lent) = single_load(frame.alloc, context, &*locals, &*own) {
-        return Ok(lent);
+    match valid.load() {
+        Load::BuiltIn(v) => {
+            let word = machine.built_in(firing, v)?;
+            Ok(word)
+        }
+        Load::Argument(n) => Ok(Word::Int(argument(firing, n))),
+        Load::Local(x) => {
+            let word = machine.local(memory, x)?;
+            Ok(word)
+        }
+        Load::Scalar(x) => {
+            let word = machine.scalar(memory, x)?;
+            Ok(word)
+        }
+        Load::Nothing => run_to_end(valid.difo(), firing, machine, memory),
     }
-    let register = run_to_end(context, frame, locals, own)?;
-    Ok(frame.lend(context, register))
 }
 
 /// Runs an object from its first instruction to its end, and returns what it returns. The variables
@@ -147,8 +112,34 @@ pub fn run(
     ensures { RunEnds valid.now firing.now (variables locals.old own.old)
         result (variables locals.new own.new) }
 {
-    let mut frame = Frame::new(alloc);
-    let lent = run_in(valid, firing, &mut frame, locals, own)?;
-    let value = owned_value(alloc, lent)?;
+    let mut tables = Tables {
+        alloc,
+        locals: replace(locals, ClauseLocals::new(alloc)),
+        own: replace(own, ThreadTable::new(alloc)),
+    };
+    let result = run_on_tables(alloc, valid, firing, &mut tables);
+    let Tables {
+        locals: l,
+        own: o,
+        ..
+    } = tables;
+    *locals = l;
+    *own = o;
+    result
+}
+
+// The same over tables.
+fn run_on_tables(
+    alloc: Global,
+    valid: &ValidDifo,
+    firing: &Firing,
+    tables: &mut Tables,
+) -> Result<Value, MachineFault>
+    ensures { RunEnds valid.now firing.now (variables tables.old.locals tables.old.own)
+        result (variables tables.new.locals tables.new.own) }
+{
+    let mut machine = Machine::new(alloc, HashKey::of_seed(&[]))?;
+    let word = run_on(valid, firing, &mut machine, tables)?;
+    let value = machine.value(word)?;
     Ok(value)
 }

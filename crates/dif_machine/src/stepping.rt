@@ -6,80 +6,93 @@ mod tuple;
 mod values;
 mod variables;
 
-ghost use Rattle.std.specs.Prelude.{◌≢◌};
-ghost use Rattle.dif_machine.specs.{Held.frame_of};
-ghost use Rattle.dif_machine.specs.Vocabulary.{object_of, variables};
-ghost use Rattle.dif_machine.specs.Steps.Instructions.{CanExecuteOver, ExecutesOver};
-ghost use Rattle.dif_machine.specs.Semantics.{step_of, Stuck};
-ghost use Rattle.dif_machine.specs.Steps.Semantics.{Stepped};
+ghost use Rattle.std.specs.Prelude.{◌≡◌, ◌≢◌, ◌+◌, ℕ};
+ghost use Rattle.dif_machine.specs.Semantics.{act, step_of, Stuck};
+ghost use Rattle.dif_machine.specs.{Frames.at_index, Machine.Knows};
+ghost use Rattle.dif_machine.specs.Steps.Instructions.{ExecutesOn, StepsOn};
+ghost use Rattle.dif_machine.specs.Vocabulary.{object_of};
 
-use crate::context::Context;
 use crate::fault::MachineFault;
-use crate::frame::Frame;
+use crate::machine::Machine;
+use crate::memory::Memory;
+use crate::onward::Onward;
 use crate::stepping::integers::Operands;
-use d_values::{ClauseLocals, ThreadTable};
-use dif_validate::{Instr, Reg};
+use dif_validate::{Difo, Instr};
+use firings::Firing;
 
-/// One instruction. Returns the register that has the value if it ends the run.
-pub(crate) fn step(
-    context: Context<'_>,
-    frame: &mut Frame,
-    locals: &mut ClauseLocals,
-    own: &mut ThreadTable,
-) -> Result<Option<Reg>, MachineFault>
-    requires { step_of (object_of context.difo.now) context.firing.now
-        (frame_of (object_of context.difo.now) context.firing.now frame.old)
-        (variables locals.old own.old) ≢ Stuck }
-    ensures { Stepped (variables locals.old own.old)
-        (step_of (object_of context.entry.difo.now) context.entry.firing.now
-        (frame_of (object_of context.entry.difo.now) context.entry.firing.now frame.old)
-        (variables locals.old own.old)) result
-        (frame_of (object_of context.entry.difo.now) context.entry.firing.now frame.new)
-        (variables locals.new own.new) }
+/// The instruction at an index.
+#[inline(always)]
+pub(crate) fn step<M: Memory>(
+    difo: &Difo,
+    firing: &Firing,
+    index: usize,
+    machine: &mut Machine,
+    memory: &mut M,
+) -> Result<Onward, MachineFault>
+    requires runs { step_of (object_of difo.now) firing.now (at_index machine.old.frame index)
+        (M.holds memory.old machine.old.texts) ≢ Stuck }
+    requires known { Knows firing.now machine.old.known }
+    requires over { M.is_over memory.old machine.old.texts }
+    ensures does { StepsOn M.holds M.is_over (object_of difo.now)
+        firing.now index memory.old machine.old result memory.new machine.new }
+    ensures beside { M.beside memory.new ≡ M.beside memory.old }
 {
-    match context.difo.code.get(frame.pc) {
-        Some(instr) => execute(context, instr, frame, locals, own),
+    match difo.code.get(index) {
+        Some(instr) => execute(difo, firing, instr, index + 1, machine, memory),
         None => unreachable!(),
     }
 }
 
-// Executes the instruction at the index. It is read in place, as no instruction uses all fields.
-fn execute(
-    context: Context<'_>,
+// Executes an instruction, which the next index follows.
+#[inline(always)]
+fn execute<M: Memory>(
+    difo: &Difo,
+    firing: &Firing,
     instr: &Instr,
-    frame: &mut Frame,
-    locals: &mut ClauseLocals,
-    own: &mut ThreadTable,
-) -> Result<Option<Reg>, MachineFault>
-    requires { CanExecuteOver instr.now context.difo.now context.firing.now frame.old
-        (variables locals.old own.old) }
-    ensures { ExecutesOver instr.now context.entry.difo.now context.entry.firing.now frame.old
-        (variables locals.old own.old) result frame.new (variables locals.new own.new) }
+    next: usize,
+    machine: &mut Machine,
+    memory: &mut M,
+) -> Result<Onward, MachineFault>
+    requires runs { (index : ℕ) × (next ≡ index + 1) × (act instr.now (object_of difo.now)
+        firing.now (at_index machine.old.frame index) (M.holds memory.old machine.old.texts)
+        ≢ Stuck) }
+    requires known { Knows firing.now machine.old.known }
+    requires over { M.is_over memory.old machine.old.texts }
+    ensures does { ExecutesOn M.holds M.is_over instr.now next (object_of difo.now)
+        firing.now memory.old machine.old result memory.new machine.new }
+    ensures beside { M.beside memory.new ≡ M.beside memory.old }
 {
-    match *instr {
-        Instr::Alu(op, a, b, d) => integers::alu(context, frame, op, Operands { a, b, d }),
-        Instr::Not(a, d) => integers::not(context, frame, a, d),
-        Instr::Mov(a, d) => values::mov(frame, a, d),
-        Instr::Cmp(a, b) => comparisons::cmp(context, frame, a, b),
-        Instr::Tst(a) => comparisons::tst(context, frame, a),
-        Instr::Scmp(a, b) => comparisons::scmp(context, frame, a, b),
-        Instr::Ba(to) => comparisons::ba(frame, to),
-        Instr::Branch(condition, to) => comparisons::branch(frame, condition, to),
-        Instr::Setx(i, d) => integers::setx(context, frame, i, d),
-        Instr::Sets(i, d) => values::sets(frame, i, d),
-        Instr::Ldgs(v, d) => values::ldgs(context, frame, v, d),
-        Instr::Ldga(_, a, d) => integers::ldga(context, frame, a, d),
-        Instr::Ldts(x, d) => variables::ldts(frame, own, x, d),
-        Instr::Stts(x, a) => variables::stts(context, frame, own, x, a),
-        Instr::Ldls(x, d) => variables::ldls(frame, locals, x, d),
-        Instr::Stls(x, a) => variables::stls(context, frame, locals, x, a),
-        Instr::Pushtr(a) => tuple::pushtr(frame, a),
-        Instr::Pushtv(a) => tuple::pushtv(frame, a),
-        Instr::Flushts => tuple::flushts(frame),
-        Instr::Ldtaa(x, d) => variables::ldtaa(context, frame, own, x, d),
-        Instr::Sttaa(x, a) => variables::sttaa(context, frame, own, x, a),
-        Instr::Call(f, d) => tuple::call(context, frame, f, d),
-        Instr::Ret(a) => values::ret(a),
-        Instr::Nop => values::nop(frame),
+    match instr {
+        Instr::Alu(op, a, b, d) => {
+            let operands = Operands {
+                a: *a,
+                b: *b,
+                d: *d,
+            };
+            integers::alu(machine, *op, operands, next)
+        }
+        Instr::Not(a, d) => integers::not(machine, *a, *d, next),
+        Instr::Mov(a, d) => values::mov(machine, *a, *d, next),
+        Instr::Cmp(a, b) => comparisons::cmp(machine, *a, *b, next),
+        Instr::Tst(a) => comparisons::tst(machine, *a, next),
+        Instr::Scmp(a, b) => comparisons::scmp(machine, *a, *b, next),
+        Instr::Ba(to) => Ok(Onward::Goes(*to)),
+        Instr::Branch(condition, to) => comparisons::branch(machine, *condition, *to, next),
+        Instr::Setx(i, d) => integers::setx(difo, machine, *i, *d, next),
+        Instr::Sets(i, d) => values::sets(difo, machine, *i, *d, next),
+        Instr::Ldgs(v, d) => values::ldgs(firing, machine, *v, *d, next),
+        Instr::Ldga(_, a, d) => integers::ldga(firing, machine, *a, *d, next),
+        Instr::Ldts(x, d) => variables::ldts(machine, memory, *x, *d, next),
+        Instr::Stts(x, a) => variables::stts(machine, memory, *x, *a, next),
+        Instr::Ldls(x, d) => variables::ldls(machine, memory, *x, *d, next),
+        Instr::Stls(x, a) => variables::stls(machine, memory, *x, *a, next),
+        Instr::Pushtr(a) => tuple::pushtr(machine, *a, next),
+        Instr::Pushtv(a) => tuple::pushtv(machine, *a, next),
+        Instr::Flushts => tuple::flushts(machine, next),
+        Instr::Ldtaa(x, d) => variables::ldtaa(machine, memory, *x, *d, next),
+        Instr::Sttaa(x, a) => variables::sttaa(machine, memory, *x, *a, next),
+        Instr::Call(f, d) => tuple::call(machine, *f, *d, next),
+        Instr::Ret(a) => values::ret(machine, *a),
+        Instr::Nop => Ok(Onward::Goes(next)),
     }
 }

@@ -5,6 +5,7 @@ pub mod Shapes
 pub mod Rows
 pub mod Asks
 pub mod Leaves
+pub mod Loads
 pub mod Flow
 pub mod Ways
 pub mod Returns

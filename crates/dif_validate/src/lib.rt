@@ -8,6 +8,7 @@ mod flow;
 mod instruction;
 pub mod laws;
 mod leaves;
+mod load;
 mod object;
 mod pass;
 mod register;
@@ -18,6 +19,7 @@ mod valid;
 
 pub use fault::DifFault;
 pub use instruction::{Condition, Function, Instr, Operator};
+pub use load::Load;
 pub use object::Difo;
 pub use register::Reg;
 pub use valid::{ValidDifo, validate};

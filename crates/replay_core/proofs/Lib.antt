@@ -1,4 +1,3 @@
-pub mod KeyParts
 pub mod RepeatLemmas
 pub mod PatternTests
 pub mod Stars
@@ -10,6 +9,9 @@ pub mod EffectRuns
 pub mod StateLemmas
 pub mod SelectionLemmas
 pub mod ThreadLemmas
+pub mod WordLemmas
+pub mod KeyLemmas
+pub mod TableThreads
 pub mod FiringLemmas
 pub mod RunLemmas
 pub mod IndexLemmas

@@ -1,6 +1,6 @@
 -- Clauses that run several times in a row.
 use Rattle.std.proofs.Common.{◌≡◌, ℕ, zero, suc, ◌+◌, List, [], ◌∷◌, ◌++◌, length, get_or, set}
-use Rattle.std.proofs.Common.{◌<◌, ◌==◌, ◌&&◌, All, ne_eqb, refl, sym, ap, ap₂, ◌∙◌, arith, append_assoc, append-nil}
+use Rattle.std.proofs.Common.{◌<◌, ◌-◌, ◌==◌, ◌&&◌, All, ne_eqb, refl, sym, ap, ap₂, ◌∙◌, arith, append_assoc, append-nil}
 use Rattle.std.specs.Bool.{Decides}
 use Rattle.std.specs.Prelude.{replicate}
 use Rattle.std.proofs.lemmas.Bool.Decides.{Decides-and, Decides-eqb, Decides-like}
@@ -24,7 +24,7 @@ once_more (x ∷ rest) (suc i) r len last =
     ap (λ l. replicate x.times x.index ++ l) (once_more rest i r (omega arith) last)
     ∙ sym (append_assoc (replicate x.times x.index) (indices_in_turn rest) (r.index ∷ []))
 
-abbrev repeat_of : ℕ → ℕ → Repeat
+abbrev pub repeat_of : ℕ → ℕ → Repeat
 repeat_of index times = record { index = index; times = times }
 
 pub repeats_same : (a b : Repeat) → Decides (a.index == b.index && a.times == b.times) (a ≡ b)
@@ -44,3 +44,13 @@ none_at_all (r ∷ rest) taken =
     let some : length (r ∷ rest) ≡ 0 → ⊥ = λ e. omega arith in
     let some_in_turn : length (indices_in_turn (r ∷ rest)) ≡ 0 → ⊥ = λ e. omega (arith, all, front, here) in
     ne_eqb (length (r ∷ rest)) 0 some ∙ sym (ne_eqb (length (indices_in_turn (r ∷ rest))) 0 some_in_turn)
+
+-- ---- indices that are taken
+
+-- a clause that runs some times runs once and then the other times
+pub once_taken : (index times : ℕ) (rest : List Repeat) → 0 < times
+    → indices_in_turn (repeat_of index times ∷ rest) ≡ index ∷ indices_in_turn (repeat_of index (times - 1) ∷ rest)
+once_taken index zero rest some = absurd (omega arith)
+once_taken index (suc n) rest some =
+    let less : suc n - 1 ≡ n = omega arith in
+    ap (λ k. index ∷ indices_in_turn (repeat_of index k ∷ rest)) (sym less)

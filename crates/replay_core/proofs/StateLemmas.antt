@@ -1,15 +1,24 @@
--- States that stay as they are.
+-- States that stay at their firing and at their thread.
 use Rattle.std.specs.Prelude.{◌≡◌, Contains}
-use Rattle.std.proofs.Common.{ap, subst, sym, ◌∙◌}
-use Rattle.replay_core.specs.declared.{lanes.piece.Piece.Piece, lanes.state.State.State}
-use Rattle.replay_core.specs.{Effects.HasTaken, Evaluation.Stays}
+use Rattle.std.proofs.Common.{ap, refl, subst, sym, ◌∙◌}
+use Rattle.replay_core.specs.declared.{lanes.piece.Piece.Piece, lanes.state.State.State, lanes.store.Store.Ghosts}
+use Rattle.replay_core.specs.{Effects.HasTaken, Evaluation.Stays, Threads.StoreSeen}
 
-pub stays_then : (old now new : State) → Stays old now → Stays now new → Stays old new
-stays_then old now new before after = (after.0 ∙ before.0, after.1 ∙ before.1)
+module _ {S : Type 0} {G : Ghosts S} (seen : S → StoreSeen) where
+  pub stays_refl : (s : State S G) → Stays seen s s
+  stays_refl s = record { firing = refl; store = refl; at = refl; others = refl }
 
-pub number_stays : (old new : State) → Stays old new → new.firing.now.number ≡ old.firing.now.number
-number_stays old new stays = ap (λ f. f.now.number) stays.0
+  pub stays_then : (old now new : State S G) → Stays seen old now → Stays seen now new → Stays seen old new
+  stays_then old now new before after = record {
+    firing = after.firing ∙ before.firing;
+    store = after.store ∙ before.store;
+    at = after.at ∙ before.at;
+    others = after.others ∙ before.others;
+  }
 
-pub taken_still : (old new : State) (before after : Piece) → Stays old new → after.taken.items ≡ before.taken.items → HasTaken old before → HasTaken new after
-taken_still old new before after stays same has =
-    subst (λ l. Contains l new.firing.now.number) (sym same) (subst (Contains before.taken.items) (sym (number_stays old new stays)) has)
+  pub number_stays : (old new : State S G) → Stays seen old new → new.firing.now.number ≡ old.firing.now.number
+  number_stays old new stays = ap (λ f. f.now.number) stays.firing
+
+  pub taken_still : (old new : State S G) (before after : Piece) → Stays seen old new → after.taken.items ≡ before.taken.items → HasTaken old before → HasTaken new after
+  taken_still old new before after stays same has =
+      subst (λ l. Contains l new.firing.now.number) (sym same) (subst (Contains before.taken.items) (sym (number_stays old new stays)) has)

@@ -1,21 +1,22 @@
 -- What calls that evaluate return and leave.
 use Rattle.std.specs.Prelude.{◌≡◌, Result, Ok, Err}
-use Rattle.replay_core.specs.Vocabulary.{Faults, Firing, Has, Outcome, Variables, variables}
+use Rattle.replay_core.specs.Vocabulary.{Faults, Firing, Has, Outcome, Variables}
 use Rattle.replay_core.specs.declared.{evaluation.fault.EvalFault.EvalFault}
-use Rattle.replay_core.specs.declared.{lanes.state.State.State}
-use Rattle.replay_core.specs.declared.{lanes.tables.Tables.Tables}
+use Rattle.replay_core.specs.declared.{lanes.state.State.State, lanes.store.Store.Ghosts}
+use Rattle.replay_core.specs.Threads.{StoreSeen}
 
--- ---- states
+-- ---- states, over a store of which contracts see this
 
-abbrev pub variables_of : Tables → Variables
-variables_of tables = variables tables.locals tables.own
+abbrev pub variables_in : {S : Type 0} → {G : Ghosts S} → (S → StoreSeen) → State S G → Variables
+variables_in seen state = (seen state.store.now).present
 
-abbrev pub variables_in : State → Variables
-variables_in state = variables_of state.tables.now
-
--- a state is still of the same firing, over the same tables
-abbrev pub Stays : (old new : State) → Type 0
-Stays old new = (new.firing ≡ old.firing) × (new.tables.ghost_name ≡ old.tables.ghost_name)
+-- a state is still of the same firing, over the same store, and other threads keep what they kept
+pub record Stays {S : Type 0} {G : Ghosts S} (seen : S → StoreSeen) (old new : State S G)
+    : Type 0 where
+  pub firing : new.firing ≡ old.firing
+  pub store : new.store.ghost_name ≡ old.store.ghost_name
+  pub at : (seen new.store.now).at ≡ (seen old.store.now).at
+  pub others : (seen new.store.now).others ≡ (seen old.store.now).others
 
 -- ---- what a call returns, unless memory ran out
 
@@ -25,7 +26,8 @@ Returns o (Err EvalFault.DivideByZero) vars = o ≡ Faults vars
 Returns o (Err EvalFault.Memory) vars = Unit {0}
 
 -- what a call returns and leaves in its state
-abbrev pub Meets : {A : Type 0} → (Firing → Variables → Outcome A) → Result A EvalFault
-    → (old new : State) → Type 0
-Meets meaning r old new =
-    Stays old new × Returns (meaning old.firing.now (variables_in old)) r (variables_in new)
+abbrev pub Meets : {S A : Type 0} → {G : Ghosts S} → (S → StoreSeen)
+    → (Firing → Variables → Outcome A) → Result A EvalFault → (old new : State S G) → Type 0
+Meets seen meaning r old new =
+    Stays seen old new
+    × Returns (meaning old.firing.now (variables_in seen old)) r (variables_in seen new)

@@ -12,6 +12,7 @@ pub mod Selecting
 pub mod Seen
 pub mod Sizes
 pub mod Threads
+pub mod WordStore
 pub mod Effects
 pub mod Forms
 pub mod Scripts

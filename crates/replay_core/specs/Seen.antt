@@ -1,10 +1,9 @@
 -- Pieces, wholes and lanes as contracts see them.
-use Rattle.std.specs.Prelude.{◌≤◌, ◌*◌, ◌^◌, ℤ, List, length, map}
+use Rattle.std.specs.Prelude.{◌≤◌, ◌*◌, ◌^◌, length, map}
 use Rattle.aggregations.specs.Table.{count_held}
 use Rattle.replay_core.specs.declared.lanes.piece.Piece.{Piece}
-use Rattle.replay_core.specs.declared.lanes.tables.Tables.{Tables}
 use Rattle.replay_core.specs.declared.collector.whole.Whole.{Whole}
-use Rattle.replay_core.specs.{Lanes.LaneSeen, Threads.threads_in}
+use Rattle.replay_core.specs.{Lanes.LaneSeen, Threads.StoreSeen, Threads.threads_of}
 use Rattle.replay_core.specs.Pieces.{PieceSeen, WholeSeen}
 
 abbrev pub piece_seen : Piece → PieceSeen
@@ -23,9 +22,9 @@ whole_seen w = record {
   exit = w.exit;
 }
 
--- a lane with these tables of threads and this piece
-abbrev pub lane_seen : List (ℤ × Tables) → Piece → LaneSeen
-lane_seen tables p = record { threads = threads_in tables; piece = piece_seen p }
+-- a lane with a store of which contracts see this, and with this piece
+abbrev pub lane_seen : StoreSeen → Piece → LaneSeen
+lane_seen store p = record { threads = threads_of store; piece = piece_seen p }
 
 -- a firing makes at most 2^32 contributions
 abbrev pub IsRoomy : Piece → Type 0

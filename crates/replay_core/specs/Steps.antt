@@ -4,7 +4,6 @@ pub mod Adding
 pub mod AllMade
 pub mod AtBoard
 pub mod Beginnings
-pub mod Caching
 pub mod Described
 pub mod EffectRuns
 pub mod Effects

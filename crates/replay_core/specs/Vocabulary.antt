@@ -20,7 +20,6 @@ pub use Rattle.firings.specs.Firings.{HasRanges, number_of}
 pub use Rattle.firings.specs.Stored.{AreIndices, Extends, row_before}
 pub use Rattle.firings.specs.Firings.{IsTrace}
 pub use Rattle.firings.specs.declared.firing.Firing.{Firing}
-pub use Rattle.aggregations.specs.Lent.{key_of, part_of_lent}
 pub use Rattle.firings.specs.declared.limits.TheConstants.{MAX_TOGETHER}
 pub use Rattle.aggregations.specs.Table.{Aggregation, Contribution, StandsFor, count_held}
 pub use Rattle.aggregations.specs.Table.{functions_of}
@@ -40,7 +39,6 @@ pub use Rattle.d_types.specs.declared.typed.TypedExpr.{TypedExpr}
 pub use Rattle.d_types.specs.declared.typed.TypedStmt.{TypedStmt}
 pub use Rattle.dif_codegen.specs.Meaning.{IsSameClause}
 pub use Rattle.dif_codegen.specs.Programs.{action_code}
-pub use Rattle.dif_machine.specs.Runs.{value_result}
 pub use Rattle.shard_queue.specs.Boards.{IsAt, IsNew, least_lowered, least_seen, number_lowered}
 pub use Rattle.shard_queue.specs.Boards.{number_seen}
 pub use Rattle.shard_queue.specs.Groups.{AreOf, grouping}

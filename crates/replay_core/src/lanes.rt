@@ -8,9 +8,11 @@ pub(crate) mod lane;
 pub(crate) mod piece;
 pub(crate) mod run_firings;
 pub(crate) mod state;
+pub(crate) mod store;
 pub(crate) mod tables;
 pub(crate) mod threads;
 pub(crate) mod tree;
+pub(crate) mod word_store;
 
 ghost use Rattle.std.specs.Prelude.{◌≡◌, IfOk, IsFalse, []};
 

@@ -2,7 +2,6 @@
 
 mod clause;
 mod expression;
-mod lent_key;
 mod objects;
 mod printing;
 mod statement;

@@ -1,70 +1,54 @@
--- What a call that executes an instruction needs, and what it does, over an object and a frame as
--- they lie in memory.
-use Rattle.std.specs.Prelude.{◌≢◌, ◌<◌, ◌-◌, ◌^◌, List, Option, Result}
-use Rattle.d_values.specs.Stores.{Locals, Own, local_of, own_of}
-use Rattle.dif_validate.specs.Objects.{object_of}
-use Rattle.dif_machine.specs.Vocabulary.{Difo, Firing, FrameInMemory, Instr, KeyPart, MachineFault}
-use Rattle.dif_machine.specs.Vocabulary.{Reg, Value, Var, Variables}
-use Rattle.dif_machine.specs.Held.{frame_of}
-use Rattle.dif_machine.specs.Semantics.{Stuck, act}
+-- What a call that executes an instruction needs, and what it does.
+use Rattle.std.specs.Prelude.{◌≡◌, ◌≢◌, ◌+◌, ℕ, List, Result}
+use Rattle.numbered.specs.Texts.{Keeps}
+use Rattle.dif_machine.specs.Vocabulary.{Firing, Instr, MachineFault, Object, Variables}
+use Rattle.dif_machine.specs.Frames.{Frame, at_index}
+use Rattle.dif_machine.specs.Machine.{Knows, Seen}
+use Rattle.dif_machine.specs.Semantics.{Next, Stuck, act, step_of}
 use Rattle.dif_machine.specs.Steps.Semantics.{Stepped}
+use Rattle.dif_machine.specs.declared.onward.Onward.{Onward}
 
--- there is a next index
-abbrev pub HasNext : FrameInMemory → Type 0
-HasNext frame = frame.pc < 2 ^ 64 - 1
+-- before this next index, with some variables, the instruction isn't stuck
+abbrev pub CanExecuteFor : Instr → ℕ → Object → Firing → Frame → Type 0
+CanExecuteFor i next o f s =
+    (vars : Variables) × (index : ℕ) × (next ≡ index + 1)
+    × (act i o f (at_index s index) vars ≢ Stuck)
 
--- and the instruction is not stuck
-abbrev pub CanExecuteOver : Instr → Difo → Firing → FrameInMemory → Variables → Type 0
-CanExecuteOver i difo f frame vars =
-    HasNext frame
-    × (act i (object_of difo) f (frame_of (object_of difo) f frame) vars ≢ Stuck)
+abbrev pub CanExecute : Instr → ℕ → Frame → Type 0
+CanExecute i next s = (o : Object) × (f : Firing) × CanExecuteFor i next o f s
 
-abbrev pub CanExecute : Instr → Difo → Firing → FrameInMemory → Type 0
-CanExecute i difo f frame = (vars : Variables) × CanExecuteOver i difo f frame vars
+-- whatever the variables, the call returns and leaves what the definition says, and texts keep
+-- their numbers
+pub record ExecutesFor (i : Instr) (next : ℕ) (o : Object) (f : Firing) (m : Seen)
+    (result : Result Onward MachineFault) (n : Seen) : Type 0 where
+  pub kept : Keeps m.texts n.texts
+  pub known : Knows f m.known → Knows f n.known
+  pub stepped : (index : ℕ) → next ≡ index + 1 → (vars : Variables)
+      → Stepped vars (act i o f (at_index m.frame index) vars) result n.frame vars
 
--- from a frame and variables the call returns and leaves what the definition says
-abbrev pub ExecutesOver : Instr → Difo → Firing → FrameInMemory → Variables
-    → Result (Option Reg) MachineFault → FrameInMemory → Variables → Type 0
-ExecutesOver i difo f frame vars result next after =
-    Stepped vars (act i (object_of difo) f (frame_of (object_of difo) f frame) vars)
-    result (frame_of (object_of difo) f next) after
+-- and whatever the object and the firing
+abbrev pub Executes : Instr → ℕ → Seen → Result Onward MachineFault → Seen → Type 0
+Executes i next m result n = (o : Object) (f : Firing) → ExecutesFor i next o f m result n
 
--- ---- if the call gets not all variables, it does so with any others, and leaves those
+-- with the variables that are in a memory, the call returns and leaves what follows
+pub record LeadsTo {M : Type 0} (holds : M → List (List ℕ) → Variables)
+    (is_over : M → List (List ℕ) → Type 0) (f : Firing) (memory : M) (m : Seen)
+    (result : Result Onward MachineFault) (left : M) (n : Seen) (next : Next) : Type 0 where
+  pub kept : Keeps m.texts n.texts
+  pub known : Knows f m.known → Knows f n.known
+  pub over : is_over left n.texts
+  pub stepped : Stepped (holds memory m.texts) next result n.frame (holds left n.texts)
 
-abbrev pub Executes : Instr → Difo → Firing → FrameInMemory
-    → Result (Option Reg) MachineFault → FrameInMemory → Type 0
-Executes i difo f frame result next =
-    (vars : Variables) → ExecutesOver i difo f frame vars result next vars
+abbrev pub ExecutesOn : {M : Type 0} → (M → List (List ℕ) → Variables)
+    → (M → List (List ℕ) → Type 0) → Instr → ℕ → Object → Firing → M → Seen
+    → Result Onward MachineFault → M → Seen → Type 0
+ExecutesOn holds is_over i next o f memory m result left n =
+    (index : ℕ) → next ≡ index + 1 → LeadsTo holds is_over f memory m result left n
+    (act i o f (at_index m.frame index) (holds memory m.texts))
 
-abbrev pub ExecutesOnLocals : Instr → Difo → Firing → FrameInMemory → Locals
-    → Result (Option Reg) MachineFault → FrameInMemory → Locals → Type 0
-ExecutesOnLocals i difo f frame locals result next after =
-    (own : Var → List KeyPart → Value)
-    → ExecutesOver i difo f frame (record { locals = local_of locals; own = own })
-    result next (record { locals = local_of after; own = own })
-
-abbrev pub ExecutesOnOwn : Instr → Difo → Firing → FrameInMemory → Own
-    → Result (Option Reg) MachineFault → FrameInMemory → Own → Type 0
-ExecutesOnOwn i difo f frame own result next after =
-    (locals : Var → Value)
-    → ExecutesOver i difo f frame (record { locals = locals; own = own_of own })
-    result next (record { locals = locals; own = own_of after })
-
--- ---- and where it gets no object and no firing, with any over which the instruction is not stuck
-
-abbrev pub ExecutesAnywhere : Instr → FrameInMemory → Result (Option Reg) MachineFault
-    → FrameInMemory → Type 0
-ExecutesAnywhere i frame result next =
-    (difo : Difo) (f : Firing) → CanExecute i difo f frame → Executes i difo f frame result next
-
-abbrev pub LoadsLocal : Instr → FrameInMemory → Locals → Result (Option Reg) MachineFault
-    → FrameInMemory → Type 0
-LoadsLocal i frame locals result next =
-    (difo : Difo) (f : Firing) → CanExecute i difo f frame
-    → ExecutesOnLocals i difo f frame locals result next locals
-
-abbrev pub LoadsOwn : Instr → FrameInMemory → Own → Result (Option Reg) MachineFault
-    → FrameInMemory → Type 0
-LoadsOwn i frame own result next =
-    (difo : Difo) (f : Firing) → CanExecute i difo f frame
-    → ExecutesOnOwn i difo f frame own result next own
+abbrev pub StepsOn : {M : Type 0} → (M → List (List ℕ) → Variables)
+    → (M → List (List ℕ) → Type 0) → Object → Firing → ℕ → M → Seen
+    → Result Onward MachineFault → M → Seen → Type 0
+StepsOn holds is_over o f index memory m result left n =
+    LeadsTo holds is_over f memory m result left n
+    (step_of o f (at_index m.frame index) (holds memory m.texts))

@@ -1,89 +1,72 @@
 //! Instructions that compare, and branches.
 
-ghost use Rattle.std.specs.Prelude.{◌≢◌, None};
-ghost use Rattle.dif_machine.specs.Vocabulary.{Cmp, Tst, Scmp, Ba, Branch};
-ghost use Rattle.dif_machine.specs.Steps.Instructions.{CanExecute, Executes, ExecutesAnywhere};
-ghost use Rattle.dif_machine.specs.Steps.Instructions.{HasNext};
+ghost use Rattle.dif_machine.specs.Vocabulary.{Cmp, Tst, Scmp, Branch};
+ghost use Rattle.dif_machine.specs.Steps.Instructions.{CanExecute, Executes};
 
 use crate::comparing::{compare_numbers, compare_texts, holds};
-use crate::context::Context;
 use crate::fault::MachineFault;
-use crate::frame::Frame;
+use crate::machine::Machine;
+use crate::onward::Onward;
 use dif_validate::{Condition, Reg};
 
 /// `cmp a, b`: compares two integers.
+#[inline(always)]
 pub(super) fn cmp(
-    context: Context<'_>,
-    frame: &mut Frame,
+    machine: &mut Machine,
     a: Reg,
     b: Reg,
-) -> Result<Option<Reg>, MachineFault>
-    requires { CanExecute (Cmp a b) context.difo.now context.firing.now frame.old }
-    ensures { Executes (Cmp a b) context.entry.difo.now context.entry.firing.now frame.old
-        result frame.new }
+    next: usize,
+) -> Result<Onward, MachineFault>
+    requires { CanExecute (Cmp a b) next machine.old.frame }
+    ensures { Executes (Cmp a b) next machine.old result machine.new }
 {
-    let known = compare_numbers(frame.number(context, a), frame.number(context, b));
-    frame.compare(known);
-    Ok(None)
+    let known = compare_numbers(machine.number(a), machine.number(b));
+    machine.compare(known);
+    Ok(Onward::Goes(next))
 }
 
 /// `tst a`: compares an integer with 0.
-pub(super) fn tst(
-    context: Context<'_>,
-    frame: &mut Frame,
-    a: Reg,
-) -> Result<Option<Reg>, MachineFault>
-    requires { CanExecute (Tst a) context.difo.now context.firing.now frame.old }
-    ensures { Executes (Tst a) context.entry.difo.now context.entry.firing.now frame.old
-        result frame.new }
+#[inline(always)]
+pub(super) fn tst(machine: &mut Machine, a: Reg, next: usize) -> Result<Onward, MachineFault>
+    requires { CanExecute (Tst a) next machine.old.frame }
+    ensures { Executes (Tst a) next machine.old result machine.new }
 {
-    let known = compare_numbers(frame.number(context, a), 0);
-    frame.compare(known);
-    Ok(None)
+    let known = compare_numbers(machine.number(a), 0);
+    machine.compare(known);
+    Ok(Onward::Goes(next))
 }
 
 /// `scmp a, b`: compares two texts.
+#[inline(never)]
 pub(super) fn scmp(
-    context: Context<'_>,
-    frame: &mut Frame,
+    machine: &mut Machine,
     a: Reg,
     b: Reg,
-) -> Result<Option<Reg>, MachineFault>
-    requires { CanExecute (Scmp a b) context.difo.now context.firing.now frame.old }
-    ensures { Executes (Scmp a b) context.entry.difo.now context.entry.firing.now frame.old
-        result frame.new }
+    next: usize,
+) -> Result<Onward, MachineFault>
+    requires { CanExecute (Scmp a b) next machine.old.frame }
+    ensures { Executes (Scmp a b) next machine.old result machine.new }
 {
-    let known = compare_texts(frame.text(context, a), frame.text(context, b));
-    frame.compare(known);
-    Ok(None)
-}
-
-/// `ba to`: goes to an index.
-pub(super) fn ba(frame: &mut Frame, to: usize) -> Result<Option<Reg>, MachineFault>
-    ensures { ExecutesAnywhere (Ba to) frame.old result frame.new }
-{
-    frame.pc = to;
-    Ok(None)
+    let known = compare_texts(machine.text(a), machine.text(b));
+    machine.compare(known);
+    Ok(Onward::Goes(next))
 }
 
 /// `bCOND to`: goes to an index where the last comparison is so.
+#[inline(always)]
 pub(super) fn branch(
-    frame: &mut Frame,
+    machine: &mut Machine,
     condition: Condition,
     to: usize,
-) -> Result<Option<Reg>, MachineFault>
-    requires next { HasNext frame.old }
-    requires compared { frame.old.comparison ≢ None }
-    ensures { ExecutesAnywhere (Branch condition to) frame.old result frame.new }
+    next: usize,
+) -> Result<Onward, MachineFault>
+    requires { CanExecute (Branch condition to) next machine.old.frame }
+    ensures { Executes (Branch condition to) next machine.old result machine.new }
 {
-    let Some(known) = frame.comparison else {
-        unreachable!()
-    };
+    let known = machine.compared();
     if holds(condition, known) {
-        frame.pc = to;
-        Ok(None)
+        Ok(Onward::Goes(to))
     } else {
-        frame.go_on();
-        Ok(None)
+        Ok(Onward::Goes(next))
     }
 }

@@ -1,17 +1,19 @@
 //! Instructions that put an integer into a register.
 
 ghost use Rattle.std.specs.Prelude.{◌≢◌, None, slice_get};
-ghost use Rattle.dif_machine.specs.Vocabulary.{Alu, Not, Setx, Ldga, Firing as Recorded, object_of};
-ghost use Rattle.dif_machine.specs.Steps.Instructions.{CanExecute, Executes, HasNext};
+ghost use Rattle.dif_machine.specs.Vocabulary.{Alu, Not, Setx, Ldga, Firing as Recorded, Object};
+ghost use Rattle.dif_machine.specs.Vocabulary.{object_of};
+ghost use Rattle.dif_machine.specs.Steps.Instructions.{CanExecute, Executes, ExecutesFor};
 
-use crate::context::Context;
+use crate::built_in::argument;
 use crate::fault::MachineFault;
-use crate::frame::Frame;
-use crate::held::Held;
+use crate::machine::Machine;
+use crate::onward::Onward;
 use crate::operating::operate;
-use crate::sources::argument;
 use d_values::{IntType, complement};
-use dif_validate::{Operator, Reg};
+use dif_validate::{Difo, Operator, Reg};
+use firings::Firing;
+use numbered::Word;
 
 /// The registers of an operation: `a` and `b` are read, and `d` is written.
 #[derive(Clone, Copy)]
@@ -22,79 +24,78 @@ pub(super) struct Operands {
 }
 
 /// `op a, b, d`: what the operator makes of two integers.
+#[inline(always)]
 pub(super) fn alu(
-    context: Context<'_>,
-    frame: &mut Frame,
+    machine: &mut Machine,
     op: Operator,
     operands: Operands,
-) -> Result<Option<Reg>, MachineFault>
-    requires { CanExecute (Alu op operands.a operands.b operands.d) context.difo.now
-        context.firing.now frame.old }
-    ensures { Executes (Alu op operands.a operands.b operands.d) context.entry.difo.now
-        context.entry.firing.now frame.old result frame.new }
+    next: usize,
+) -> Result<Onward, MachineFault>
+    requires { CanExecute (Alu op operands.a operands.b operands.d) next machine.old.frame }
+    ensures { Executes (Alu op operands.a operands.b operands.d) next machine.old result
+        machine.new }
 {
-    match operate(
-        op,
-        frame.number(context, operands.a),
-        frame.number(context, operands.b),
-    ) {
+    match operate(op, machine.number(operands.a), machine.number(operands.b)) {
         Ok(word) => {
-            frame.put(operands.d, Held::Int(word));
-            Ok(None)
+            machine.put(operands.d, Word::Int(word));
+            Ok(Onward::Goes(next))
         }
         Err(_) => Err(MachineFault::DivideByZero),
     }
 }
 
 /// `not a, d`: an integer with all bits turned.
+#[inline(always)]
 pub(super) fn not(
-    context: Context<'_>,
-    frame: &mut Frame,
+    machine: &mut Machine,
     a: Reg,
     d: Reg,
-) -> Result<Option<Reg>, MachineFault>
-    requires { CanExecute (Not a d) context.difo.now context.firing.now frame.old }
-    ensures { Executes (Not a d) context.entry.difo.now context.entry.firing.now frame.old
-        result frame.new }
+    next: usize,
+) -> Result<Onward, MachineFault>
+    requires { CanExecute (Not a d) next machine.old.frame }
+    ensures { Executes (Not a d) next machine.old result machine.new }
 {
-    let word = complement(IntType::UINT64, frame.number(context, a));
-    frame.put(d, Held::Int(word));
-    Ok(None)
+    let word = complement(IntType::UINT64, machine.number(a));
+    machine.put(d, Word::Int(word));
+    Ok(Onward::Goes(next))
 }
 
 /// `setx i, d`: the integer of this index in the table.
+#[inline(always)]
 pub(super) fn setx(
-    context: Context<'_>,
-    frame: &mut Frame,
+    difo: &Difo,
+    machine: &mut Machine,
     i: usize,
     d: Reg,
-) -> Result<Option<Reg>, MachineFault>
-    requires next { HasNext frame.old }
-    requires inside { slice_get (object_of context.difo.now).numbers i ≢ None }
-    ensures { (f : Recorded) → Executes (Setx i d) context.entry.difo.now f frame.old
-        result frame.new }
+    next: usize,
+) -> Result<Onward, MachineFault>
+    requires inside { slice_get (object_of difo.now).numbers i ≢ None }
+    ensures { (f : Recorded) → ExecutesFor (Setx i d) next (object_of difo.now) f
+        machine.old result machine.new }
 {
-    match context.difo.numbers.get(i) {
+    match difo.numbers.get(i) {
         Some(word) => {
-            frame.put(d, Held::Int(*word));
-            Ok(None)
+            machine.put(d, Word::Int(*word));
+            Ok(Onward::Goes(next))
         }
         None => unreachable!(),
     }
 }
 
 /// `ldga v, a, d`: the firing's argument of this number.
+#[inline(always)]
 pub(super) fn ldga(
-    context: Context<'_>,
-    frame: &mut Frame,
+    firing: &Firing,
+    machine: &mut Machine,
     a: Reg,
     d: Reg,
-) -> Result<Option<Reg>, MachineFault>
-    requires { CanExecute (Ldga 0 a d) context.difo.now context.firing.now frame.old }
-    ensures { Executes (Ldga 0 a d) context.entry.difo.now context.entry.firing.now frame.old
-        result frame.new }
+    next: usize,
+) -> Result<Onward, MachineFault>
+    requires { CanExecute (Ldga 0 a d) next machine.old.frame }
+    ensures { (o : Object) → ExecutesFor (Ldga 0 a d) next o firing.now machine.old result
+        machine.new }
 {
-    let word = argument(context.firing, frame.number(context, a));
-    frame.put(d, Held::Int(word));
-    Ok(None)
+    let word = argument(firing, machine.number(a));
+    machine.put(d, Word::Int(word));
+    Ok(Onward::Goes(next))
 }

@@ -2,57 +2,57 @@
 
 ghost use Rattle.std.specs.Prelude.{◌<◌, length};
 ghost use Rattle.dif_machine.specs.Vocabulary.{Pushtr, Pushtv, Flushts, Call};
-ghost use Rattle.dif_machine.specs.Steps.Instructions.{CanExecute, Executes, ExecutesAnywhere};
-ghost use Rattle.dif_machine.specs.Steps.Instructions.{HasNext};
+ghost use Rattle.dif_machine.specs.Steps.Instructions.{CanExecute, Executes};
 
-use crate::context::Context;
 use crate::fault::MachineFault;
-use crate::frame::Frame;
-use crate::operating::call as call_function;
+use crate::machine::Machine;
+use crate::onward::Onward;
 use dif_validate::{Function, Reg};
 
-/// `pushtr a`: adds a text. One of the object or of the firing stays where it is.
-pub(super) fn pushtr(frame: &mut Frame, a: Reg) -> Result<Option<Reg>, MachineFault>
-    requires next { HasNext frame.old }
-    requires room { length frame.old.tuple < 8 }
-    ensures { ExecutesAnywhere (Pushtr a) frame.old result frame.new }
+/// `pushtr a`: adds a text.
+#[inline(always)]
+pub(super) fn pushtr(machine: &mut Machine, a: Reg, next: usize) -> Result<Onward, MachineFault>
+    requires can { CanExecute (Pushtr a) next machine.old.frame }
+    requires room { length machine.old.frame.tuple < 8 }
+    ensures { Executes (Pushtr a) next machine.old result machine.new }
 {
-    frame.push(a)?;
-    Ok(None)
+    let word = machine.word(a);
+    machine.push(word);
+    Ok(Onward::Goes(next))
 }
 
 /// `pushtv a`: adds an integer.
-pub(super) fn pushtv(frame: &mut Frame, a: Reg) -> Result<Option<Reg>, MachineFault>
-    requires next { HasNext frame.old }
-    requires room { length frame.old.tuple < 8 }
-    ensures { ExecutesAnywhere (Pushtv a) frame.old result frame.new }
+#[inline(always)]
+pub(super) fn pushtv(machine: &mut Machine, a: Reg, next: usize) -> Result<Onward, MachineFault>
+    requires can { CanExecute (Pushtv a) next machine.old.frame }
+    requires room { length machine.old.frame.tuple < 8 }
+    ensures { Executes (Pushtv a) next machine.old result machine.new }
 {
-    frame.push(a)?;
-    Ok(None)
+    let word = machine.word(a);
+    machine.push(word);
+    Ok(Onward::Goes(next))
 }
 
 /// `flushts`: empties the tuple.
-pub(super) fn flushts(frame: &mut Frame) -> Result<Option<Reg>, MachineFault>
-    requires { HasNext frame.old }
-    ensures { ExecutesAnywhere Flushts frame.old result frame.new }
+#[inline(always)]
+pub(super) fn flushts(machine: &mut Machine, next: usize) -> Result<Onward, MachineFault>
+    ensures { Executes Flushts next machine.old result machine.new }
 {
-    frame.flush();
-    Ok(None)
+    machine.flush();
+    Ok(Onward::Goes(next))
 }
 
 /// `call f, d`: what a function makes of the tuple.
+#[inline(always)]
 pub(super) fn call(
-    context: Context<'_>,
-    frame: &mut Frame,
+    machine: &mut Machine,
     function: Function,
     d: Reg,
-) -> Result<Option<Reg>, MachineFault>
-    requires { CanExecute (Call function d) context.difo.now context.firing.now frame.old }
-    ensures { Executes (Call function d) context.entry.difo.now context.entry.firing.now
-        frame.old result frame.new }
+    next: usize,
+) -> Result<Onward, MachineFault>
+    requires { CanExecute (Call function d) next machine.old.frame }
+    ensures { Executes (Call function d) next machine.old result machine.new }
 {
-    frame.write_key(context)?;
-    let value = call_function(frame.alloc, function, frame.key.key())?;
-    frame.put_value(d, value);
-    Ok(None)
+    machine.call(function, d)?;
+    Ok(Onward::Goes(next))
 }

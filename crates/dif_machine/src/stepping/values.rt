@@ -1,60 +1,79 @@
-//! Instructions that move a value of either kind, or none.
+//! Instructions that move a value of either kind.
 
-ghost use Rattle.dif_machine.specs.Vocabulary.{Difo, FrameInMemory, Mov, Sets, Ldgs, Ret, Nop};
-ghost use Rattle.dif_machine.specs.Steps.Instructions.{CanExecute, Executes, ExecutesAnywhere};
-ghost use Rattle.dif_machine.specs.Steps.Instructions.{HasNext};
+ghost use Rattle.std.specs.Prelude.{◌≡◌, ◌≢◌, ℕ, None, slice_get};
+ghost use Rattle.dif_machine.specs.{Machine.Knows, Sources.built_in_of};
+ghost use Rattle.dif_machine.specs.Vocabulary.{Firing as Recorded, Mov, Sets, Ldgs, Ret};
+ghost use Rattle.dif_machine.specs.Vocabulary.{Object, at, object_of};
+ghost use Rattle.dif_machine.specs.Steps.Instructions.{CanExecute, Executes, ExecutesFor};
 
-use crate::context::Context;
 use crate::fault::MachineFault;
-use crate::frame::Frame;
-use crate::held::Held;
-use dif_validate::Reg;
+use crate::machine::Machine;
+use crate::onward::Onward;
+use dif_validate::{Difo, Reg};
+use firings::Firing;
 
 /// `mov a, d`: what another register holds.
-pub(super) fn mov(frame: &mut Frame, a: Reg, d: Reg) -> Result<Option<Reg>, MachineFault>
-    requires { HasNext frame.old }
-    ensures { ExecutesAnywhere (Mov a d) frame.old result frame.new }
+#[inline(always)]
+pub(super) fn mov(
+    machine: &mut Machine,
+    a: Reg,
+    d: Reg,
+    next: usize,
+) -> Result<Onward, MachineFault>
+    requires { CanExecute (Mov a d) next machine.old.frame }
+    ensures { Executes (Mov a d) next machine.old result machine.new }
 {
-    frame.copy(a, d)?;
-    Ok(None)
+    let word = machine.word(a);
+    machine.put(d, word);
+    Ok(Onward::Goes(next))
 }
 
-/// `sets i, d`: the text of this index in the table, which stays there.
-pub(super) fn sets(frame: &mut Frame, i: usize, d: Reg) -> Result<Option<Reg>, MachineFault>
-    requires { HasNext frame.old }
-    ensures { ExecutesAnywhere (Sets i d) frame.old result frame.new }
+/// `sets i, d`: the text of this index in the table.
+#[inline(always)]
+pub(super) fn sets(
+    difo: &Difo,
+    machine: &mut Machine,
+    i: usize,
+    d: Reg,
+    next: usize,
+) -> Result<Onward, MachineFault>
+    requires inside { slice_get (object_of difo.now).texts i ≢ None }
+    ensures { (f : Recorded) → ExecutesFor (Sets i d) next (object_of difo.now) f
+        machine.old result machine.new }
 {
-    frame.put(d, Held::Constant(i));
-    Ok(None)
+    match difo.texts.get(i) {
+        Some(text) => {
+            machine.load_text(text.as_bytes(), d)?;
+            Ok(Onward::Goes(next))
+        }
+        None => unreachable!(),
+    }
 }
 
-/// `ldgs v, d`: the built-in variable of this number. A text stays in the firing.
+/// `ldgs v, d`: the built-in variable of this number.
+#[inline(always)]
 pub(super) fn ldgs(
-    context: Context<'_>,
-    frame: &mut Frame,
+    firing: &Firing,
+    machine: &mut Machine,
     v: u8,
     d: Reg,
-) -> Result<Option<Reg>, MachineFault>
-    requires { HasNext frame.old }
-    ensures { (difo : Difo) → CanExecute (Ldgs v d) difo context.entry.firing.now frame.old
-        → Executes (Ldgs v d) difo context.entry.firing.now frame.old result frame.new }
+    next: usize,
+) -> Result<Onward, MachineFault>
+    requires there { built_in_of firing.now v ≢ None }
+    requires known { Knows firing.now machine.old.known }
+    ensures { (o : Object) → ExecutesFor (Ldgs v d) next o firing.now machine.old result
+        machine.new }
 {
-    frame.put(d, Held::built_in(context.firing, v));
-    Ok(None)
+    machine.load_built_in(firing, v, d)?;
+    Ok(Onward::Goes(next))
 }
 
 /// `ret a`: ends the run with what the register holds, which stays there.
-pub(super) fn ret(a: Reg) -> Result<Option<Reg>, MachineFault>
-    ensures { (frame : FrameInMemory) → ExecutesAnywhere (Ret a) frame result frame }
+#[inline(always)]
+pub(super) fn ret(machine: &mut Machine, a: Reg) -> Result<Onward, MachineFault>
+    requires { at machine.old.frame.registers a ≢ None }
+    ensures { (next : ℕ) → Executes (Ret a) next machine.old result machine.new }
 {
-    Ok(Some(a))
-}
-
-/// `nop`: on to the next instruction.
-pub(super) fn nop(frame: &mut Frame) -> Result<Option<Reg>, MachineFault>
-    requires { HasNext frame.old }
-    ensures { ExecutesAnywhere Nop frame.old result frame.new }
-{
-    frame.go_on();
-    Ok(None)
+    let _word = machine.word(a);
+    Ok(Onward::Ends(a))
 }

@@ -6,9 +6,9 @@ use Rattle.replay_core.specs.Vocabulary.{count_held, functions_of}
 use Rattle.replay_core.specs.Steps.EffectRuns.{contributions_in, exit_in, texts_in}
 use Rattle.replay_core.specs.declared.{evaluation.fault.EvalFault.EvalFault}
 use Rattle.replay_core.specs.declared.{lanes.piece.Piece.Piece}
-use Rattle.replay_core.specs.declared.{lanes.state.State.State}
+use Rattle.replay_core.specs.declared.{lanes.state.State.State, lanes.store.Store.Ghosts}
 use Rattle.replay_core.specs.{Evaluation.Stays, Evaluation.variables_in, Pieces.PieceSeen}
-use Rattle.replay_core.specs.{Lanes.Notes, Seen.piece_seen}
+use Rattle.replay_core.specs.{Lanes.Notes, Seen.piece_seen, Threads.StoreSeen}
 
 -- what effects make, if no fault comes after them
 abbrev pub effects_result : List Effect → Variables → Made
@@ -36,11 +36,13 @@ Performs number (Faults after) old (Err EvalFault.DivideByZero) new vars =
     (vars ≡ after) × (new ≡ old)
 
 -- a statement in a state does what its meaning says
-abbrev pub IsPerformed : (Firing → Variables → Outcome Effect) → Result Bool EvalFault
-    → (old new : State) → (before after : Piece) → Type 0
-IsPerformed meaning r old new before after =
-    Stays old new × Performs old.firing.now.number (meaning old.firing.now (variables_in old))
-    (piece_seen before) r (piece_seen after) (variables_in new)
+abbrev pub IsPerformed : {S : Type 0} → {G : Ghosts S} → (S → StoreSeen)
+    → (Firing → Variables → Outcome Effect) → Result Bool EvalFault → (old new : State S G)
+    → (before after : Piece) → Type 0
+IsPerformed seen meaning r old new before after =
+    Stays seen old new
+    × Performs old.firing.now.number (meaning old.firing.now (variables_in seen old))
+    (piece_seen before) r (piece_seen after) (variables_in seen new)
 
 -- ---- contributions
 

@@ -1,24 +1,38 @@
 -- What the functions that evaluate an expression return, unless memory ran out.
-use Rattle.std.specs.Prelude.{◌≡◌, Result, Ok, Err}
-use Rattle.replay_core.specs.Vocabulary.{Faults, Firing, Has, Outcome, Typed, Value, Variables}
-use Rattle.replay_core.specs.Vocabulary.{eval}
+use Rattle.std.specs.Prelude.{◌≡◌, ⊤, List, Result, Ok, Err}
+use Rattle.dif_machine.specs.declared.fault.MachineFault.{MachineFault}
+use Rattle.numbered.specs.Words.{key_in}
+use Rattle.numbered.specs.declared.word.Word.{Word}
+use Rattle.replay_core.specs.Vocabulary.{Faults, Firing, Has, KeyPart, Outcome, Typed, Value}
+use Rattle.replay_core.specs.Vocabulary.{Variables, eval}
 use Rattle.replay_core.specs.declared.{evaluation.fault.EvalFault.EvalFault}
-use Rattle.replay_core.specs.declared.{lanes.state.State.State}
-use Rattle.replay_core.specs.Evaluation.{variables_in, Stays, Meets}
+use Rattle.replay_core.specs.declared.{lanes.state.State.State, lanes.store.Store.Ghosts}
+use Rattle.replay_core.specs.declared.{lanes.tables.Tables.Tables}
+use Rattle.replay_core.specs.{Evaluation.Meets, Evaluation.Stays, Evaluation.variables_in}
+use Rattle.replay_core.specs.{Threads.tables_seen, WordStore.WordsSeen, WordStore.words_seen}
 
 -- the value of what is evaluated
-abbrev pub HasValue : Typed → Result Value EvalFault → (old new : State) → Type 0
-HasValue e = Meets (λ f. eval f e)
+abbrev pub HasValue : {G : Ghosts Tables} → Typed → Result Value EvalFault
+    → (old new : State Tables G) → Type 0
+HasValue e = Meets tables_seen (λ f. eval f e)
 
--- ---- what a call leaves in a place, unless memory ran out
+-- ---- values as words
 
-abbrev pub IsLeft : {A B : Type 0} → Outcome A → Result B EvalFault → A → Variables → Type 0
-IsLeft o (Ok x) made vars = o ≡ Has made vars
-IsLeft o (Err EvalFault.DivideByZero) made vars = o ≡ Faults vars
-IsLeft o (Err EvalFault.Memory) made vars = Unit {0}
+-- what a run of an object returned, as evaluations return it
+abbrev pub evaluation_of : {A : Type 0} → Result A MachineFault → Result A EvalFault
+evaluation_of (Ok x) = Ok x
+evaluation_of (Err MachineFault.DivideByZero) = Err EvalFault.DivideByZero
+evaluation_of (Err MachineFault.Memory) = Err EvalFault.Memory
 
--- what a call that puts a part of a key in its place leaves there and in its state
-abbrev pub PutsPart : {A B : Type 0} → (Firing → Variables → Outcome A) → Result B EvalFault → A
-    → (old new : State) → Type 0
-PutsPart meaning r made old new =
-    Stays old new × IsLeft (meaning old.firing.now (variables_in old)) r made (variables_in new)
+-- what a call that makes a key leaves, unless memory ran out: words that stand for it
+abbrev pub IsMadeKey : Outcome (List KeyPart) → Result (⊤) EvalFault → List KeyPart → Variables
+    → Type 0
+IsMadeKey o (Ok x) key vars = o ≡ Has key vars
+IsMadeKey o (Err EvalFault.DivideByZero) key vars = o ≡ Faults vars
+IsMadeKey o (Err EvalFault.Memory) key vars = Unit {0}
+
+pub record MakesKey {G : Ghosts WordsSeen} (meaning : Firing → Variables → Outcome (List KeyPart))
+    (r : Result ⊤ EvalFault) (words : List Word) (old new : State WordsSeen G) : Type 0 where
+  pub stays : Stays words_seen old new
+  pub made : IsMadeKey (meaning old.firing.now (variables_in words_seen old)) r
+      (key_in new.store.now.texts words) (variables_in words_seen new)

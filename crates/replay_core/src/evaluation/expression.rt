@@ -2,6 +2,7 @@
 
 ghost use Rattle.replay_core.specs.Vocabulary.{Typed, keys_of, typed_of, typeds_of};
 ghost use Rattle.replay_core.specs.Evaluation.{Meets};
+ghost use Rattle.replay_core.specs.Threads.{tables_seen};
 ghost use Rattle.replay_core.specs.Steps.Evaluation.{HasValue};
 
 use crate::evaluation::built_in::{built_in, copied_text};
@@ -15,6 +16,7 @@ use crate::evaluation::variables::{
     assign_variable, read_variable, step_variable, update_variable,
 };
 use crate::lanes::state::State;
+use crate::lanes::tables::Tables;
 use d_parser::LogicOperator;
 use d_types::{Operation, TypedExpr, Variable};
 use d_values::{Key, Value};
@@ -22,7 +24,7 @@ use d_values::{Key, Value};
 /// The value of an expression, with the variables as it leaves them (Dynamic Tracing Guide, "Types,
 /// Operators, and Expressions"). Refused at a division by 0, whose variables stay as they then are.
 #[cycle(evaluation)]
-pub(crate) fn evaluate(e: &TypedExpr, state: &mut State<'_>) -> Result<Value, EvalFault>
+pub(crate) fn evaluate(e: &TypedExpr, state: &mut State<'_, '_, Tables>) -> Result<Value, EvalFault>
     ensures { HasValue (typed_of e.now) result state.old state.new }
 {
     match e {
@@ -69,8 +71,11 @@ pub(crate) fn evaluate(e: &TypedExpr, state: &mut State<'_>) -> Result<Value, Ev
 
 /// The key that expressions make, from left to right.
 #[cycle(evaluation)]
-pub(crate) fn evaluate_key(keys: &[TypedExpr], state: &mut State<'_>) -> Result<Key, EvalFault>
-    ensures { Meets (λ f. keys_of f (typeds_of keys.now)) result state.old state.new }
+pub(crate) fn evaluate_key(
+    keys: &[TypedExpr],
+    state: &mut State<'_, '_, Tables>,
+) -> Result<Key, EvalFault>
+    ensures { Meets tables_seen (λ f. keys_of f (typeds_of keys.now)) result state.old state.new }
 {
     let mut key = Key::new(state.alloc);
     for e in keys {
@@ -86,7 +91,7 @@ fn logic(
     op: LogicOperator,
     a: &TypedExpr,
     b: &TypedExpr,
-    state: &mut State<'_>,
+    state: &mut State<'_, '_, Tables>,
 ) -> Result<Value, EvalFault>
     ensures { HasValue (Typed.Logic op (typed_of a.now) (typed_of b.now))
         result state.old state.new }
@@ -107,7 +112,7 @@ fn update(
     x: Variable,
     keys: &[TypedExpr],
     a: &TypedExpr,
-    state: &mut State<'_>,
+    state: &mut State<'_, '_, Tables>,
 ) -> Result<Value, EvalFault>
     ensures { HasValue (Typed.Update op x (typeds_of keys.now) (typed_of a.now))
         result state.old state.new }

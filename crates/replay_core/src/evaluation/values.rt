@@ -17,16 +17,6 @@ pub(crate) fn word_in(value: &Value) -> u64
     }
 }
 
-/// The word of an integer that is lent, or 0.
-pub(crate) fn word_of(value: ValueRef<'_>) -> u64
-    ensures { result ≡ spec.word_of (lent_value value.entry) }
-{
-    match value {
-        ValueRef::Int(word) => word,
-        ValueRef::Text(_) => 0,
-    }
-}
-
 /// Lends the bytes of a text, or none.
 pub(crate) fn bytes_in(value: &Value) -> &[u8]
     ensures { result.now ≡ spec.bytes_of value.now }

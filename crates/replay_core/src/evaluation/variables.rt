@@ -4,12 +4,14 @@ ghost use Rattle.std.specs.Prelude.{◌≡◌};
 ghost use Rattle.d_types.specs.Storage.{as_kind, value_of_variable, var_of, word_of};
 ghost use Rattle.d_types.specs.Expressions as spec;
 ghost use Rattle.replay_core.specs.Evaluation.{Meets};
+ghost use Rattle.replay_core.specs.Threads.{tables_seen};
 ghost use Rattle.replay_core.specs.Vocabulary.{kind_of};
 
 use crate::evaluation::fault::EvalFault;
 use crate::evaluation::operators::{step_result, step_value, word_as_type};
 use crate::evaluation::values::{owned_value, word_in};
 use crate::lanes::state::State;
+use crate::lanes::tables::Tables;
 use d_parser::Step;
 use d_types::{Answer, Space, Variable, kind_of};
 use d_values::{Key, Kind, OutOfZero, Text, Value, Var};
@@ -41,14 +43,14 @@ fn as_kind(alloc: Global, kind: Kind, value: Value) -> Value
 pub(crate) fn read_variable(
     x: Variable,
     key: &Key,
-    state: &mut State<'_>,
+    state: &mut State<'_, '_, Tables>,
 ) -> Result<Value, EvalFault>
-    ensures { Meets (λ f vars. spec.Has (value_of_variable vars x key.now) vars)
+    ensures { Meets tables_seen (λ f vars. spec.Has (value_of_variable vars x key.now) vars)
         result state.old state.new }
 {
     let value = match x.space {
-        Space::Thread => owned_value(state.alloc, state.tables.own.get(var_of(x), key))?,
-        Space::Clause => owned_value(state.alloc, state.tables.locals.get(var_of(x)))?,
+        Space::Thread => owned_value(state.alloc, state.store.own.get(var_of(x), key))?,
+        Space::Clause => owned_value(state.alloc, state.store.locals.get(var_of(x)))?,
     };
     Ok(value)
 }
@@ -58,17 +60,17 @@ pub(crate) fn assign_variable(
     x: Variable,
     key: &Key,
     value: Value,
-    state: &mut State<'_>,
+    state: &mut State<'_, '_, Tables>,
 ) -> Result<Value, EvalFault>
-    ensures { Meets (λ f vars. spec.assignment_outcome x key.now value vars)
+    ensures { Meets tables_seen (λ f vars. spec.assignment_outcome x key.now value vars)
         result state.old state.new }
 {
     let copy = value.clone()?;
     let var = var_of(x);
     let value = as_kind(state.alloc, var.kind, value);
     match x.space {
-        Space::Thread => state.tables.own.set(var, key, value)?,
-        Space::Clause => state.tables.locals.set(var, value)?,
+        Space::Thread => state.store.own.set(var, key, value)?,
+        Space::Clause => state.store.locals.set(var, value)?,
     }
     Ok(copy)
 }
@@ -78,9 +80,9 @@ pub(crate) fn update_variable(
     x: Variable,
     key: &Key,
     made: Result<u64, OutOfZero>,
-    state: &mut State<'_>,
+    state: &mut State<'_, '_, Tables>,
 ) -> Result<Value, EvalFault>
-    ensures { Meets
+    ensures { Meets tables_seen
         (λ f vars. spec.with (spec.word_or_fault made vars) (spec.update_outcome x key.now))
         result state.old state.new }
 {
@@ -96,9 +98,9 @@ pub(crate) fn step_variable(
     answer: Answer,
     x: Variable,
     key: &Key,
-    state: &mut State<'_>,
+    state: &mut State<'_, '_, Tables>,
 ) -> Result<Value, EvalFault>
-    ensures { Meets (λ f vars.
+    ensures { Meets tables_seen (λ f vars.
         spec.step_outcome step answer x key.now (word_of (value_of_variable vars x key.now)) vars)
         result state.old state.new }
 {

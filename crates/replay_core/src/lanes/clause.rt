@@ -11,6 +11,9 @@ ghost use Rattle.replay_core.specs.Evaluation.{Stays, variables_in};
 
 use crate::lanes::piece::Piece;
 use crate::lanes::state::State;
+use crate::lanes::store::Store;
+use crate::lanes::tables::Tables;
+use crate::lanes::word_store::Words;
 use crate::statements::run_clause;
 use d_parser::Description;
 use d_types::TypedClause;
@@ -19,6 +22,9 @@ use std::alloc::AllocError;
 
 /// A clause in the form in which an engine runs it.
 pub trait Clause {
+    /// Where it finds variables.
+    type Store: Store;
+
     /// What it means if variables have the types of these slots.
     ghost means: { Self → Slots → ClauseMeant → Type 0 };
 
@@ -40,22 +46,31 @@ pub trait Clause {
     /// Runs it for a firing: notes in the piece what its statements do, and returns whether it
     /// exits. At a division by 0 the run ends, and a line that names the firing and the clause's
     /// index, from 1, takes the place of its texts.
-    fn run(&self, index: u64, state: &mut State<'_>, piece: &mut Piece) -> Result<bool, AllocError>
+    fn run(
+        &self,
+        index: u64,
+        state: &mut State<'_, '_, Self::Store>,
+        piece: &mut Piece,
+    ) -> Result<bool, AllocError>
         requires indices { indices self.now ≤ length (functions_of piece.old.table) }
         requires room { count_held piece.old.table + most self.now ≤ 2 ^ 52 }
         requires taken { HasTaken state.old piece.old }
         ensures functions { functions_of piece.new.table ≡ functions_of piece.old.table }
         ensures taken { piece.new.taken.items ≡ piece.old.taken.items }
         ensures held { count_held piece.new.table ≤ count_held piece.old.table + most self.now }
-        ensures state { Stays state.old state.new }
+        ensures state { Stays Self.Store.seen state.old state.new }
         ensures run { IfOk result (λ exits.
             (slots : Slots) (c : ClauseMeant) → means self.now slots c
-            → HasTypedBuiltIns state.old.firing.now → AreTyped slots (variables_in state.old)
-            → IsNotedRun (λ f. run_of f index c) state.old state.new piece.old piece.new exits) };
+            → HasTypedBuiltIns state.old.firing.now
+            → AreTyped slots (variables_in Self.Store.seen state.old)
+            → IsNotedRun Self.Store.seen (λ f. run_of f index c) state.old state.new piece.old
+            piece.new exits) };
 }
 
 // The tree of a clause, walked.
 impl Clause for TypedClause {
+    type Store = Tables;
+
     ghost means = { λ c slots meant. meant ≡ meant_of c };
 
     ghost most = { λ c. statement_count (meant_of c) };
@@ -71,7 +86,7 @@ impl Clause for TypedClause {
     fn run(
         &self,
         index: u64,
-        state: &mut State<'_>,
+        state: &mut State<'_, '_, Tables>,
         piece: &mut Piece,
     ) -> Result<bool, AllocError> {
         run_clause(&self.predicate, &self.statements, index, state, piece)
@@ -80,6 +95,8 @@ impl Clause for TypedClause {
 
 // The objects of a compiled clause, run by the machine.
 impl Clause for CompiledClause {
+    type Store = Words;
+
     ghost means = { λ c slots meant. IsSameClause slots c meant };
 
     ghost most = { λ c. length c.actions.items };
@@ -95,7 +112,7 @@ impl Clause for CompiledClause {
     fn run(
         &self,
         index: u64,
-        state: &mut State<'_>,
+        state: &mut State<'_, '_, Words>,
         piece: &mut Piece,
     ) -> Result<bool, AllocError> {
         run_clause(&self.predicate, &self.actions, index, state, piece)

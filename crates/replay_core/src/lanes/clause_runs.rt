@@ -69,7 +69,7 @@ impl<'a> IndicesLeft<'a> {
 pub(crate) fn run_clauses<C: Clause>(
     clauses: &[C],
     indices: &ClauseIndices,
-    state: &mut State<'_>,
+    state: &mut State<'_, '_, C::Store>,
     piece: &mut Piece,
 ) -> Result<bool, AllocError>
     requires there { All (λ index. index < length clauses.now) indices.now }
@@ -79,17 +79,19 @@ pub(crate) fn run_clauses<C: Clause>(
     requires taken { HasTaken state.old piece.old }
     ensures functions { functions_of piece.new.table ≡ functions_of piece.old.table }
     ensures taken { piece.new.taken.items ≡ piece.old.taken.items }
-    ensures state { Stays state.old state.new }
+    ensures state { Stays C.Store.seen state.old state.new }
     ensures notes { OnOk result ((slots : Slots) (cs : List ClauseMeant)
         → AllMean C.means slots clauses.now cs → HasTypedBuiltIns state.old.firing.now
-        → AreTyped slots (variables_in state.old) →
-        let made = all_made state.old.firing.now cs indices.now (variables_in state.old) in
+        → AreTyped slots (variables_in C.Store.seen state.old) →
+        let made = all_made state.old.firing.now cs indices.now
+        (variables_in C.Store.seen state.old) in
         Notes state.old.firing.now.number made (piece_seen piece.old) (piece_seen piece.new)
-        × (variables_in state.new ≡ made.variables)) }
+        × (variables_in C.Store.seen state.new ≡ made.variables)) }
     ensures exits { IfOk result (λ exits. (slots : Slots) (cs : List ClauseMeant)
         → AllMean C.means slots clauses.now cs → HasTypedBuiltIns state.old.firing.now
-        → AreTyped slots (variables_in state.old) →
-        let made = all_made state.old.firing.now cs indices.now (variables_in state.old) in
+        → AreTyped slots (variables_in C.Store.seen state.old) →
+        let made = all_made state.old.firing.now cs indices.now
+        (variables_in C.Store.seen state.old) in
         exits ≡ is_some made.exit) }
     ensures held { OnOk result (count_held piece.new.table
         ≤ count_held piece.old.table + MAX_BYTES * length indices.now) }

@@ -5,7 +5,7 @@ ghost use Rattle.replay_core.specs.Vocabulary.{ScriptMeant};
 ghost use Rattle.replay_core.specs.{Compiled.IsCompiled, Lanes.IsFresh};
 
 use crate::lanes::Lanes;
-use crate::lanes::engine::Engine;
+use crate::lanes::engine::{Engine, boxed};
 use crate::lanes::lane::Lane;
 use crate::selection::{Selections, select};
 use dif_codegen::{CompiledClause, Program};
@@ -65,7 +65,7 @@ impl<'a> DifLanes<'a> {
 }
 
 impl<'a> Lanes for DifLanes<'a> {
-    type Lane = DifLane<'a>;
+    type Lane = Box<DifLane<'a>>;
 
     ghost runs = { λ l m. IsCompiled m l.program.now };
 
@@ -81,7 +81,7 @@ impl<'a> Lanes for DifLanes<'a> {
         select(alloc, self.hash_key, self.program.clauses(), trace)
     }
 
-    fn lane(&self, alloc: Global) -> Result<DifLane<'a>, AllocError> {
-        dif_lane(alloc, self.hash_key, self.program)
+    fn lane(&self, alloc: Global) -> Result<Box<DifLane<'a>>, AllocError> {
+        boxed(alloc, dif_lane(alloc, self.hash_key, self.program)?)
     }
 }

@@ -6,7 +6,7 @@ ghost use Rattle.std.specs.Prelude.{IsTrue, OnOk, is_some, length};
 use crate::lanes::piece::Piece;
 use crate::selection::clause_indices::ClauseIndices;
 use firings::Firing;
-use std::alloc::AllocError;
+use std::alloc::{AllocError, Global};
 
 /// Runs firings for a script, in the order in which it is given them.
 pub trait Engine {
@@ -73,4 +73,37 @@ pub trait Engine {
     fn finish(self) -> Piece
         ensures piece { piece_seen result ≡ (seen self).piece }
         ensures held { IsFalse (is_spent self) → IsRoomy result };
+}
+
+// An engine that lies in a box.
+impl<E: Engine + Drop> Engine for Box<E> {
+    ghost runs = { λ l m. E.runs l.value m };
+
+    ghost seen = { λ l. E.seen l.value };
+
+    ghost is_spent = { λ l. E.is_spent l.value };
+
+    fn fire(&mut self, firing: &Firing) -> Result<bool, AllocError> {
+        (**self).fire(firing)
+    }
+
+    fn fire_selected(
+        &mut self,
+        firing: &Firing,
+        indices: &ClauseIndices,
+    ) -> Result<bool, AllocError> {
+        (**self).fire_selected(firing, indices)
+    }
+
+    fn finish(self) -> Piece {
+        Box::into_inner(self).finish()
+    }
+}
+
+/// Puts an engine into a box. The prover takes no type with a lifetime and a field of its parameter
+/// for an associated type, but takes a box of it.
+pub(crate) fn boxed<E: Engine + Drop>(alloc: Global, engine: E) -> Result<Box<E>, AllocError>
+    ensures { IfOk result (λ b. b.value ≡ engine) }
+{
+    Box::new(alloc, engine).map_err(|_| AllocError)
 }

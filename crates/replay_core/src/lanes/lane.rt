@@ -1,26 +1,24 @@
 //! Lanes: what all engines share.
 
-ghost use Rattle.std.specs.Prelude.{◌≡◌, ◌<◌, ◌≤◌, ◌∷◌, [], List, All, IfOk, OnOk, false, true};
+ghost use Rattle.std.specs.Prelude.{◌≡◌, ◌<◌, ◌≤◌, ◌∷◌, [], All, IfOk, OnOk, false, true};
 ghost use Rattle.std.specs.Prelude.{is_some, length, sum_by};
 ghost use Rattle.replay_core.specs.Vocabulary.{HasRanges, MAX_BYTES, ScriptMeant, functions_in};
 ghost use Rattle.replay_core.specs.Vocabulary.{functions_of, slots_of};
-ghost use Rattle.replay_core.specs.{Selecting.selected_for, Sizes.most_firings, Threads.threads_in};
+ghost use Rattle.replay_core.specs.{Selecting.selected_for, Sizes.most_firings, Threads.threads_of};
 ghost use Rattle.replay_core.specs.Lanes.{Fires, IsFresh};
 ghost use Rattle.replay_core.specs.Meaning.{exit_of, history};
 ghost use Rattle.replay_core.specs.Scripts.{AllMean, AreTypedThreads, RunsAs};
 ghost use Rattle.replay_core.specs.Seen.{IsRoomy, lane_seen};
 
-use crate::evaluation::Spare;
 use crate::lanes::clause::Clause;
 use crate::lanes::engine::Engine;
 use crate::lanes::piece::Piece;
-use crate::lanes::tables::Tables;
-use crate::lanes::threads::{Due, ThreadCache, run_on_thread};
+use crate::lanes::store::Store;
+use crate::lanes::threads::run_on_thread;
 use crate::selection::clause_indices::ClauseIndices;
 use crate::selection::clauses_for;
 use aggregations::AggFn;
 use firings::Firing;
-use indexmap::IndexMap;
 use keyed_hash::HashKey;
 use std::alloc::{AllocError, Global};
 
@@ -28,9 +26,8 @@ use std::alloc::{AllocError, Global};
 #[derive(Drop)]
 pub struct Lane<'a, C: Clause> {
     clauses: &'a [C],
-    threads: IndexMap<i32, Tables, HashKey>,
-    cache: ThreadCache,
-    spare: Spare,
+    hash_key: HashKey,
+    store: C::Store,
     piece: Piece,
     // Memory was refused to a firing.
     spent: bool,
@@ -63,15 +60,14 @@ impl<'a, C: Clause> Lane<'a, C> {
         ensures unspent { IfOk result (λ l. l.spent ≡ false) }
     {
         let piece = Piece::new(alloc, hash_key, functions)?;
-        let Ok(cache) = ThreadCache::new(alloc) else {
+        let Ok(store) = C::Store::new(alloc, hash_key) else {
             drop(piece);
             return Err(AllocError);
         };
         Ok(Lane {
             clauses,
-            threads: IndexMap::with_hasher(alloc, hash_key),
-            cache,
-            spare: Spare::new(alloc),
+            hash_key,
+            store,
             piece,
             spent: false,
         })
@@ -95,33 +91,28 @@ impl<'a, C: Clause> Lane<'a, C> {
         ensures step { OnOk result ((m : ScriptMeant)
             → RunsAs C.means self.old.clauses.now (functions_of self.old.piece.table) m
             → indices.now ≡ selected_for m firing.now
-            → AreTypedThreads (slots_of m) (threads_in self.old.threads.entries)
+            → AreTypedThreads (slots_of m) (threads_of (C.Store.seen self.old.store))
             → Fires m firing.now
-            (lane_seen self.old.threads.entries self.old.piece)
-            (lane_seen self.new.threads.entries self.new.piece)) }
+            (lane_seen (C.Store.seen self.old.store) self.old.piece)
+            (lane_seen (C.Store.seen self.new.store) self.new.piece)) }
         ensures typed { OnOk result ((m : ScriptMeant)
             → RunsAs C.means self.old.clauses.now (functions_of self.old.piece.table) m
             → indices.now ≡ selected_for m firing.now
-            → AreTypedThreads (slots_of m) (threads_in self.old.threads.entries)
-            → AreTypedThreads (slots_of m) (threads_in self.new.threads.entries)) }
+            → AreTypedThreads (slots_of m) (threads_of (C.Store.seen self.old.store))
+            → AreTypedThreads (slots_of m) (threads_of (C.Store.seen self.new.store))) }
         ensures exits { IfOk result (λ exits. (m : ScriptMeant)
             → RunsAs C.means self.old.clauses.now (functions_of self.old.piece.table) m
             → indices.now ≡ selected_for m firing.now
-            → AreTypedThreads (slots_of m) (threads_in self.old.threads.entries)
+            → AreTypedThreads (slots_of m) (threads_of (C.Store.seen self.old.store))
             → exits ≡ is_some
-            (exit_of (history m (firing.now ∷ []) (threads_in self.old.threads.entries)))) }
+            (exit_of (history m (firing.now ∷ []) (threads_of (C.Store.seen self.old.store))))) }
     {
         self.piece.taken.push(firing.number)?;
-        let due = Due {
-            clauses: self.clauses,
+        run_on_thread(
+            self.clauses,
             indices,
             firing,
-        };
-        run_on_thread(
-            &due,
-            &mut self.threads,
-            &mut self.cache,
-            &mut self.spare,
+            &mut self.store,
             &mut self.piece,
         )
     }
@@ -130,16 +121,15 @@ impl<'a, C: Clause> Lane<'a, C> {
 impl<'a, C: Clause> Engine for Lane<'a, C> {
     ghost runs = { λ l m.
         RunsAs C.means l.clauses.now (functions_of l.piece.table) m
-        × (l.spent ≡ false → AreTypedThreads (slots_of m) (threads_in l.threads.entries)) };
+        × (l.spent ≡ false → AreTypedThreads (slots_of m) (threads_of (C.Store.seen l.store))) };
 
-    ghost seen = { λ l. lane_seen l.threads.entries l.piece };
+    ghost seen = { λ l. lane_seen (C.Store.seen l.store) l.piece };
 
     ghost is_spent = { λ l. l.spent };
 
     fn fire(&mut self, firing: &Firing) -> Result<bool, AllocError> {
-        let alloc = *self.threads.allocator();
-        let hash_key = *self.threads.hasher();
-        let Ok(indices) = clauses_for(alloc, hash_key, self.clauses, firing) else {
+        let alloc = *self.piece.taken.allocator();
+        let Ok(indices) = clauses_for(alloc, self.hash_key, self.clauses, firing) else {
             self.spent = true;
             return Err(AllocError);
         };

@@ -3,10 +3,10 @@
 ghost use Rattle.std.specs.Prelude.{◌≡◌, ◌+◌, ◌<◌, ◌≤◌, ◌^◌, ◌++◌, ◌∷◌, [], ℕ, All, Contains};
 ghost use Rattle.std.specs.Prelude.{IfOk, OnOk, length, take};
 ghost use Rattle.replay_core.specs.Vocabulary.{Effect, count_held, fault_line, functions_of};
-ghost use Rattle.replay_core.specs.Vocabulary.{key_of};
+ghost use Rattle.numbered.specs.Words.{key_in};
 
-use aggregations::{AggFn, AggTable};
-use d_values::{Key, Text, ValueRef};
+use aggregations::{AggFn, AggTable, WordKey};
+use d_values::{Key, Text};
 use itoa::Buffer;
 use keyed_hash::HashKey;
 use std::alloc::{AllocError, Global};
@@ -99,11 +99,12 @@ impl Piece {
         self.table.add(index, key, argument)
     }
 
-    /// Notes what an aggregation is given under the key that these values make.
-    pub(crate) fn note_lent_contribution(
+    /// Notes what an aggregation is given under the key that words make.
+    #[inline(always)]
+    pub(crate) fn note_contribution_of_words(
         &mut self,
         index: usize,
-        values: &[ValueRef<'_>],
+        made: WordKey<'_>,
         argument: i64,
     ) -> Result<(), AllocError>
         requires index { index < length (functions_of self.old.table) }
@@ -112,10 +113,11 @@ impl Piece {
         ensures taken { self.new.taken.items ≡ self.old.taken.items }
         ensures held { count_held self.new.table ≤ count_held self.old.table + 1 }
         ensures notes { OnOk result ((number : ℕ)
-            → NotesEffect number (Effect.Adds index (key_of values.now) argument)
+            → NotesEffect number
+            (Effect.Adds index (key_in made.entry.texts.now made.entry.words.now) argument)
             (piece_seen self.old) (piece_seen self.new)) }
     {
-        self.table.add_lent(index, values, argument)
+        self.table.add_words(index, made, argument)
     }
 
     /// Notes an exit at the firing of this number: the first counts.

@@ -1,15 +1,14 @@
 //! What evaluations work on.
 
-use crate::evaluation::Spare;
-use crate::lanes::tables::Tables;
+use crate::lanes::store::Store;
 use firings::Firing;
 use std::alloc::Global;
 
-/// What an evaluation sees and changes: a firing, the variables of its thread, and what is spare.
+/// What an evaluation sees and changes: a firing, and the variables of a lane.
 #[derive(Drop)]
-pub struct State<'a> {
+pub struct State<'a, 's, S: Store> {
     pub(crate) alloc: Global,
     pub(crate) firing: &'a Firing<'a>,
-    pub(crate) tables: &'a mut Tables,
-    pub(crate) spare: &'a mut Spare,
+    pub(crate) store: &'s mut S,
+    ghost knows: { ∥ S.knows store.now firing.now ∥₁ },
 }

@@ -5,7 +5,7 @@ ghost use Rattle.replay_core.specs.Vocabulary.{ScriptMeant, typed_script_of};
 ghost use Rattle.replay_core.specs.Lanes.{IsFresh};
 
 use crate::lanes::Lanes;
-use crate::lanes::engine::Engine;
+use crate::lanes::engine::{Engine, boxed};
 use crate::lanes::lane::Lane;
 use crate::selection::{Selections, select};
 use d_types::{TypedClause, TypedScript};
@@ -68,7 +68,7 @@ impl<'a> TreeLanes<'a> {
 }
 
 impl<'a> Lanes for TreeLanes<'a> {
-    type Lane = TreeLane<'a>;
+    type Lane = Box<TreeLane<'a>>;
 
     ghost runs = { λ l m. m ≡ typed_script_of l.script.now };
 
@@ -84,7 +84,7 @@ impl<'a> Lanes for TreeLanes<'a> {
         select(alloc, self.hash_key, self.script.clauses(), trace)
     }
 
-    fn lane(&self, alloc: Global) -> Result<TreeLane<'a>, AllocError> {
-        tree_lane(alloc, self.hash_key, self.script)
+    fn lane(&self, alloc: Global) -> Result<Box<TreeLane<'a>>, AllocError> {
+        boxed(alloc, tree_lane(alloc, self.hash_key, self.script)?)
     }
 }

@@ -19,7 +19,7 @@ use std::alloc::AllocError;
 fn run_statements<X: Expression, S: Statement<X>>(
     statements: &[S],
     index: u64,
-    state: &mut State<'_>,
+    state: &mut State<'_, '_, X::Store>,
     piece: &mut Piece,
 ) -> Result<bool, AllocError>
     requires indices { indices_among (map S.form statements.now)
@@ -29,8 +29,8 @@ fn run_statements<X: Expression, S: Statement<X>>(
     ensures functions { functions_of piece.new.table ≡ functions_of piece.old.table }
     ensures taken { piece.new.taken.items ≡ piece.old.taken.items }
     ensures held { count_held piece.new.table ≤ count_held piece.old.table + length statements.now }
-    ensures state { Stays state.old state.new }
-    ensures run { IfOk result (IsNotedRun
+    ensures state { Stays X.Store.seen state.old state.new }
+    ensures run { IfOk result (IsNotedRun X.Store.seen
         (λ f vars. run_result (spec.fault_line f.number index)
         (statements_by (X.by f) (map S.form statements.now) vars))
         state.old state.new piece.old piece.new) }
@@ -57,7 +57,7 @@ pub(crate) fn run_clause<X: Expression, S: Statement<X>>(
     predicate: &Option<X>,
     statements: &[S],
     index: u64,
-    state: &mut State<'_>,
+    state: &mut State<'_, '_, X::Store>,
     piece: &mut Piece,
 ) -> Result<bool, AllocError>
     requires indices { indices_among (map S.form statements.now)
@@ -67,8 +67,8 @@ pub(crate) fn run_clause<X: Expression, S: Statement<X>>(
     ensures functions { functions_of piece.new.table ≡ functions_of piece.old.table }
     ensures taken { piece.new.taken.items ≡ piece.old.taken.items }
     ensures held { count_held piece.new.table ≤ count_held piece.old.table + length statements.now }
-    ensures state { Stays state.old state.new }
-    ensures run { IfOk result (IsNotedRun
+    ensures state { Stays X.Store.seen state.old state.new }
+    ensures run { IfOk result (IsNotedRun X.Store.seen
         (λ f. ran_by (X.by f) (spec.fault_line f.number index) predicate.now
         (map S.form statements.now)) state.old state.new piece.old piece.new) }
 {

@@ -1,24 +1,29 @@
 //! Trees, walked.
 
 ghost use Rattle.d_types.specs.Clauses as spec;
+ghost use Rattle.d_types.specs.Typed as typed;
 ghost use Rattle.replay_core.specs.Evaluation.{Meets};
-ghost use Rattle.replay_core.specs.Vocabulary.{typeds_of};
+ghost use Rattle.replay_core.specs.Threads.{tables_seen};
+ghost use Rattle.replay_core.specs.Steps.Effects.{HasOneMore, HasRoomAt, IsPerformed};
+ghost use Rattle.replay_core.specs.Vocabulary.{effect_by, typeds_of};
 ghost use Rattle.replay_core.specs.Forms.{by_expressions, statement_form};
 
 use crate::evaluation::{EvalFault, evaluate, evaluate_key};
 use crate::lanes::piece::Piece;
 use crate::lanes::state::State;
+use crate::lanes::tables::Tables;
 use crate::statements::expression::{Arguments, Expression};
-use crate::statements::statement::{Statement, aggregate, exit, plain, print, trace};
+use crate::statements::statement::{Statement, evaluate_argument, exit, plain, print, trace};
 use d_types::{TypedExpr, TypedStmt};
-use d_values::{DType, Key, Value};
+use d_values::{DType, Value};
 
 // From left to right.
 fn evaluate_arguments(
     arguments: &[TypedExpr],
-    state: &mut State<'_>,
+    state: &mut State<'_, '_, Tables>,
 ) -> Result<Arguments, EvalFault>
-    ensures { Meets (λ f. spec.values_of f (typeds_of arguments.now)) result state.old state.new }
+    ensures { Meets tables_seen (λ f. spec.values_of f (typeds_of arguments.now)) result state.old
+        state.new }
 {
     let mut values = Vec::new(state.alloc);
     for argument in arguments {
@@ -28,24 +33,42 @@ fn evaluate_arguments(
     Ok(Arguments { values })
 }
 
+// `@name[keys] = function(argument)`
+fn aggregate(
+    index: usize,
+    keys: &[TypedExpr],
+    argument: &Option<TypedExpr>,
+    state: &mut State<'_, '_, Tables>,
+    piece: &mut Piece,
+) -> Result<bool, EvalFault>
+    requires { HasRoomAt index piece.old }
+    ensures piece { HasOneMore piece.old piece.new }
+    ensures effect { IsPerformed tables_seen
+        (λ f. effect_by (by_expressions f) (typed.Aggregate index keys.now argument.now))
+        result state.old state.new piece.old piece.new }
+{
+    let key = evaluate_key(keys, state)?;
+    let number = evaluate_argument(argument, state)?;
+    piece.note_contribution(index, &key, number)?;
+    Ok(false)
+}
+
 impl Expression for TypedExpr {
+    type Store = Tables;
+
     ghost by = { by_expressions };
 
     fn returns(&self) -> DType {
         self.type_of()
     }
 
-    fn evaluate(&self, state: &mut State<'_>) -> Result<Value, EvalFault> {
+    fn evaluate(&self, state: &mut State<'_, '_, Tables>) -> Result<Value, EvalFault> {
         evaluate(self, state)
-    }
-
-    fn evaluate_key(keys: &[TypedExpr], state: &mut State<'_>) -> Result<Key, EvalFault> {
-        evaluate_key(keys, state)
     }
 
     fn evaluate_arguments(
         arguments: &[TypedExpr],
-        state: &mut State<'_>,
+        state: &mut State<'_, '_, Tables>,
     ) -> Result<Arguments, EvalFault> {
         evaluate_arguments(arguments, state)
     }
@@ -54,7 +77,11 @@ impl Expression for TypedExpr {
 impl Statement<TypedExpr> for TypedStmt {
     ghost form = { statement_form };
 
-    fn perform(&self, state: &mut State<'_>, piece: &mut Piece) -> Result<bool, EvalFault> {
+    fn perform(
+        &self,
+        state: &mut State<'_, '_, Tables>,
+        piece: &mut Piece,
+    ) -> Result<bool, EvalFault> {
         match self {
             TypedStmt::Evaluate(e) => plain(e, state, piece),
             TypedStmt::Trace(e) => trace(e, state, piece),

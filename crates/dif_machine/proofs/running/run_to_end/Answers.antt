@@ -1,48 +1,55 @@
-use Rattle.std.proofs.Common.{◌<◌, arith, length}
+use Rattle.std.proofs.Common.{◌<◌, ◌∙◌, arith, length, refl}
 use Rattle.dif_validate.specs.Objects.{object_of}
-use Rattle.dif_machine.specs.Held.{frame_of}
-use Rattle.dif_machine.proofs.Progress.{follows_start, follows_on, never_stuck, ends_well}
-use Rattle.dif_machine.proofs.Progress.{ends_badly}
+use Rattle.dif_machine.proofs.Holding.{keeps_on}
+use Rattle.dif_machine.proofs.Underway.{begins, failed, goes_on, is_there, not_stuck, returned}
 use Rattle.dif_machine.proofs.running.run_to_end.Goals as goal
 
-pub loop-register-init : goal.loop-register-init
-loop-register-init c =
-    let o = object_of c.args.context.difo.now in
-    let f = c.args.context.firing.now in
-    rw (c.restart.ensures o f) (follows_start o f _ c.requires)
+pub loop-next-init : goal.loop-next-init
+loop-next-init g c =
+    (refl, begins g.M.Memory.holds g.M.Memory.is_over (object_of c.args.difo.now) c.args.firing.now c.args.memory.now c.args.machine.now c.restart.new.self c.requires.valid c.restart.ensures.texts c.restart.ensures.frame c.restart.ensures.known c.requires.known c.requires.over)
 
 pub step-requires : goal.step-requires
-step-requires c =
-    let o = object_of c.args.context.difo.now in
-    let f = c.args.context.firing.now in
-    never_stuck o f _ (frame_of o f c.loop-register.frame) _ c.loop-register.invariant
+step-requires g c = record {
+  runs = not_stuck g.M.Memory.holds g.M.Memory.is_over (object_of c.args.difo.now) c.args.firing.now c.args.machine.now.texts (g.M.Memory.holds c.args.memory.now c.args.machine.now.texts) c.loop-next.index c.loop-next.memory c.loop-next.machine c.loop-next.invariant.1;
+  known = c.loop-next.invariant.1.known;
+  over = c.loop-next.invariant.1.over;
+}
 
-pub returns-in-Ok-Some : goal.returns-in-Ok-Some
-returns-in-Ok-Some c =
-    let o = object_of c.args.context.difo.now in
-    let f = c.args.context.firing.now in
-    let last = rw c.in-Ok-Some.field-0-is at c.in-Ok-Some.ensures in
-    (last.0, last.1, ends_well o f _ (frame_of o f c.loop-register.frame) _ _ last.0 c.loop-register.invariant last.2)
+pub word-requires : goal.word-requires
+word-requires g c = is_there g.M.Memory.holds g.M.Memory.is_over (object_of c.args.difo.now) c.args.firing.now c.args.machine.now.texts (g.M.Memory.holds c.args.memory.now c.args.machine.now.texts) c.loop-next.index c.loop-next.memory c.loop-next.machine c.loop-next.invariant.1 _ _ _ (rw c.in-Ok-Ends.field-0-is at c.in-Ok-Ends.ensures.does)
 
-pub loop-register-preserved : goal.loop-register-preserved
-loop-register-preserved c =
-    let o = object_of c.args.context.difo.now in
-    let f = c.args.context.firing.now in
-    (follows_on o f _ (frame_of o f c.loop-register.frame) (frame_of o f c.step.new.frame) _ _ c.loop-register.invariant
-    (rw c.in-Ok-None.field-0-is at c.in-Ok-None.ensures)).1
+pub returns-in-Ok-Ends : goal.returns-in-Ok-Ends
+returns-in-Ok-Ends g c =
+    let last = rw c.in-Ok-Ends.field-0-is at c.in-Ok-Ends.ensures.does in
+    record {
+      ends = returned g.M.Memory.holds g.M.Memory.is_over (object_of c.args.difo.now) c.args.firing.now c.args.machine.now.texts (g.M.Memory.holds c.args.memory.now c.args.machine.now.texts) c.loop-next.index c.loop-next.memory c.loop-next.machine c.loop-next.invariant.1 _ _ _ _ last c.word.ensures.is;
+      within = c.word.ensures.within;
+      kept = keeps_on _ _ _ c.loop-next.invariant.1.kept last.kept;
+      known = last.known c.loop-next.invariant.1.known;
+      over = last.over;
+      beside = c.in-Ok-Ends.ensures.beside ∙ c.loop-next.invariant.0;
+    }
+
+pub loop-next-preserved : goal.loop-next-preserved
+loop-next-preserved g c =
+    (c.in-Ok-Goes.ensures.beside ∙ c.loop-next.invariant.0, (goes_on g.M.Memory.holds g.M.Memory.is_over (object_of c.args.difo.now) c.args.firing.now c.args.machine.now.texts (g.M.Memory.holds c.args.memory.now c.args.machine.now.texts) c.loop-next.index c.loop-next.memory c.loop-next.machine c.loop-next.invariant.1 _ _ _ (rw c.in-Ok-Goes.field-0-is at c.in-Ok-Goes.ensures.does)).1)
 
 pub returns-in-Err : goal.returns-in-Err
-returns-in-Err c =
-    let o = object_of c.args.context.difo.now in
-    let f = c.args.context.firing.now in
-    ends_badly o f _ (frame_of o f c.loop-register.frame) (frame_of o f c.step.new.frame) _ _ c.in-Err.fault c.loop-register.invariant c.in-Err.ensures
+returns-in-Err g c =
+    let last = c.in-Err.ensures.does in
+    record {
+      ends = failed g.M.Memory.holds g.M.Memory.is_over (object_of c.args.difo.now) c.args.firing.now c.args.machine.now.texts (g.M.Memory.holds c.args.memory.now c.args.machine.now.texts) c.loop-next.index c.loop-next.memory c.loop-next.machine c.loop-next.invariant.1 _ _ _ last;
+      within = tt;
+      kept = keeps_on _ _ _ c.loop-next.invariant.1.kept last.kept;
+      known = last.known c.loop-next.invariant.1.known;
+      over = last.over;
+      beside = c.in-Err.ensures.beside ∙ c.loop-next.invariant.0;
+    }
 
-pub loop-register-smaller : goal.loop-register-smaller
-loop-register-smaller c =
-    let o = object_of c.args.context.difo.now in
-    let f = c.args.context.firing.now in
-    let later : c.loop-register.frame.pc < c.step.new.frame.pc =
-    (follows_on o f _ (frame_of o f c.loop-register.frame) (frame_of o f c.step.new.frame) _ _ c.loop-register.invariant
-    (rw c.in-Ok-None.field-0-is at c.in-Ok-None.ensures)).0 in
-    let inside : c.loop-register.frame.pc < length o.code = c.loop-register.invariant.reached.inside in
+pub loop-next-smaller : goal.loop-next-smaller
+loop-next-smaller g c =
+    let o = object_of c.args.difo.now in
+    let later : c.loop-next.index < c.in-Ok-Goes.next =
+    (goes_on g.M.Memory.holds g.M.Memory.is_over (object_of c.args.difo.now) c.args.firing.now c.args.machine.now.texts (g.M.Memory.holds c.args.memory.now c.args.machine.now.texts) c.loop-next.index c.loop-next.memory c.loop-next.machine c.loop-next.invariant.1 _ _ _ (rw c.in-Ok-Goes.field-0-is at c.in-Ok-Goes.ensures.does)).0 in
+    let inside : c.loop-next.index < length o.code = c.loop-next.invariant.1.follows.reached.inside in
     omega arith

@@ -8,7 +8,7 @@ use Rattle.indexmap.specs.Layout.{set_value_at}
 use Rattle.indexmap.proofs.CallerLemmas.{updates-with_value_at}
 use Rattle.d_values.specs.Keys.{same_key}
 use Rattle.d_values.specs.KeyLaws.{same_key_equiv}
-use Rattle.aggregations.specs.Lent.{key_of}
+use Rattle.numbered.specs.Words.{key_in}
 use Rattle.aggregations.specs.Steps.Entries.{Notes}
 use Rattle.aggregations.specs.Table.{entry_at}
 use Rattle.aggregations.specs.Values.{count_in}
@@ -68,7 +68,7 @@ pub returns-clause-noted : goal.returns-clause-noted
 returns-clause-noted c = λ _.
     let m = c.self.inside.map in
     let i = c.args.index in
-    let key = key_of c.args.values.now in
+    let key = key_in c.args.made.texts.now c.args.made.words.now in
     let found = c.pair_mut-partial.result in
     let held = found.1.now in
     let now = c.note.new.self in

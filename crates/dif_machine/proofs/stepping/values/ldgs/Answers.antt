@@ -1,15 +1,8 @@
-use Rattle.std.specs.Prelude.{[]}
-use Rattle.std.proofs.Common.{ap, ◌∙◌}
-use Rattle.dif_machine.specs.Vocabulary.{object_of}
-use Rattle.dif_machine.specs.Frames.{with_content}
-use Rattle.dif_machine.specs.Held.{frame_of}
+use Rattle.dif_machine.specs.Frames.{at_index}
 use Rattle.dif_machine.proofs.Acting as acting
+use Rattle.dif_machine.proofs.Holding.{at_next}
 use Rattle.dif_machine.proofs.stepping.values.ldgs.Goals as goal
 
 pub returns : goal.returns
 returns c =
-    let f = c.args.context.firing.now in
-    λ difo can vars.
-    let o = object_of difo in
-    let s = frame_of o f c.args.frame.now in
-    acting.ldgs o f s vars _ _ _ can.0 can.1.1 (c.put.ensures o f ∙ ap (with_content s c.args.d) (c.built_in.ensures.value o []))
+    λ o. record { kept = c.load_built_in.ensures.kept; known = λ k. c.load_built_in.ensures.known; stepped = λ index is_next vars. acting.ldgs_some o c.args.firing.now (at_index c.args.machine.now.frame index) vars _ _ _ c.requires.there (λ value e. at_next _ _ _ index is_next (c.in_ok-load_built_in.ensures.frame value e)) }

@@ -1,8 +1,7 @@
-use Rattle.dif_machine.specs.Vocabulary.{object_of}
-use Rattle.dif_machine.specs.Held.{frame_of}
+use Rattle.dif_machine.specs.Frames.{at_index}
 use Rattle.dif_machine.proofs.Acting as acting
+use Rattle.dif_machine.proofs.Holding.{keeps_refl}
 use Rattle.dif_machine.proofs.stepping.values.ret.Goals as goal
 
 pub returns : goal.returns
-returns c =
-    λ frame difo f may vars. let o = object_of difo in acting.ret o f (frame_of o f frame) vars c.args.a may.0 may.1.1
+returns c = λ next o f. record { kept = keeps_refl _; known = λ k. k; stepped = λ index is_next vars. (_, c.word-word.ensures.is, acting.ret o f (at_index c.args.machine.now.frame index) vars _ _ c.word-word.ensures.is) }

@@ -2,13 +2,14 @@ use Rattle.std.proofs.Common.{◌≡◌, ◌+◌, ◌*◌, ◌++◌, drop}
 use Rattle.d_types.specs.Typed.{typed_of, typeds_of}
 use Rattle.d_types.specs.Expressions.{Has, with, keys_of}
 use Rattle.replay_core.specs.Evaluation.{Stays, variables_in}
+use Rattle.replay_core.specs.Threads.{tables_seen}
 use Rattle.replay_core.proofs.Weights.{weight, weights}
 use Rattle.replay_core.proofs.evaluation.expression.+evaluation.Given as goal
 
 abbrev pub invariant-evaluate_key-loop-e : goal.invariant-evaluate_key-loop-e
 invariant-evaluate_key-loop-e l =
-    Stays l.fn.state l.state × (with (keys_of l.state.firing.now (typeds_of (drop l.e-index l.keys)) (variables_in l.state)) (λ rest. Has (l.key ++ rest))
-    ≡ keys_of l.fn.state.firing.now (typeds_of l.keys) (variables_in l.fn.state))
+    Stays tables_seen l.fn.state l.state × (with (keys_of l.state.firing.now (typeds_of (drop l.e-index l.keys)) (variables_in tables_seen l.state)) (λ rest. Has (l.key ++ rest))
+    ≡ keys_of l.fn.state.firing.now (typeds_of l.keys) (variables_in tables_seen l.fn.state))
 
 abbrev pub decreases-logic : goal.decreases-logic
 decreases-logic l = 5 * (weight (typed_of l.a.now) + weight (typed_of l.b.now)) + 3

@@ -1,4 +1,4 @@
-use Rattle.std.specs.Prelude.{◌≡◌, ◌+◌, ◌<◌, ◌≤◌, ◌∷◌, [], false, ℕ, suc, List, All, length}
+use Rattle.std.specs.Prelude.{◌≡◌, ◌+◌, ◌<◌, ◌≤◌, false, ℕ, List, All, length}
 use Rattle.std.proofs.Common.{arith, refl, subst, sym, ap, ◌∙◌}
 use Rattle.aggregations.specs.Table.{functions_of}
 use Rattle.d_types.specs.Clauses.{run_of}
@@ -7,7 +7,7 @@ use Rattle.firings.specs.declared.firing.Firing.{Firing}
 use Rattle.replay_core.specs.Effects.{NotesRun}
 use Rattle.replay_core.specs.Evaluation.{variables_in}
 use Rattle.replay_core.specs.Seen.{piece_seen}
-use Rattle.replay_core.proofs.StateLemmas.{stays_then, taken_still}
+use Rattle.replay_core.proofs.StateLemmas.{stays_refl, stays_then, taken_still}
 use Rattle.replay_core.proofs.Turning.{Continues, continues_all, continues_start, exits_all, turn_more}
 use Rattle.shard_queue.proofs.Lists.{all_head, all_tail}
 use Rattle.replay_core.proofs.lanes.clause_runs.run_clauses.Goals as goal
@@ -15,7 +15,7 @@ use Rattle.replay_core.proofs.lanes.clause_runs.run_clauses.Goals as goal
 pub loop-index-init : goal.loop-index-init
 loop-index-init g c =
     let f = c.args.state.now.firing.now in
-    let start = variables_in c.args.state.now in
+    let start = variables_in g.C.Store.Store.seen c.args.state.now in
     let piece = piece_seen c.args.piece.now in
     let long = ap length c.all-left.ensures in
     record {
@@ -23,7 +23,7 @@ loop-index-init g c =
       functions = refl;
       taken = refl;
       held = omega (arith, long);
-      stays = (refl, refl);
+      stays = stays_refl g.C.Store.Store.seen c.args.state.now;
       all_made = λ slots cs mean fit good.
           (good, subst (λ (l : List ℕ). Continues f cs c.args.indices.now l start start piece piece false) (sym c.all-left.ensures) (continues_start f cs c.args.indices.now start piece));
     }
@@ -44,7 +44,7 @@ run-requires-clause-indices g c =
 pub run-requires-clause-taken : goal.run-requires-clause-taken
 run-requires-clause-taken g c =
     let i = c.loop-index.invariant in
-    taken_still c.args.state.now c.loop-index.state c.args.piece.now c.loop-index.piece i.stays i.taken c.requires.taken
+    taken_still g.C.Store.Store.seen c.args.state.now c.loop-index.state c.args.piece.now c.loop-index.piece i.stays i.taken c.requires.taken
 
 pub run-requires-clause-room : goal.run-requires-clause-room
 run-requires-clause-room g c =
@@ -64,9 +64,9 @@ loop-index-preserved g c =
     let left = c.next.new.self in
     let clause = c.index-clauses-index.result in
     let i = c.loop-index.invariant in
-    let before = variables_in c.args.state.now in
-    let now = variables_in c.loop-index.state in
-    let after = variables_in c.run.new.state in
+    let before = variables_in g.C.Store.Store.seen c.args.state.now in
+    let now = variables_in g.C.Store.Store.seen c.loop-index.state in
+    let after = variables_in g.C.Store.Store.seen c.run.new.state in
     let old = piece_seen c.args.piece.now in
     let piece = piece_seen c.loop-index.piece in
     let next = piece_seen c.run.new.piece in
@@ -75,7 +75,7 @@ loop-index-preserved g c =
     let inside = all_head (λ p. p < length clauses) c.loop-index.left index left i.there cut in
     let most : g.C.Clause.most clause ≤ 65536 = subst (λ x. g.C.Clause.most x ≤ 65536) (sym c.index-clauses-index.is) (c.requires.few index clause inside) in
     let long = ap length cut in
-    let here : c.loop-index.state.firing.now ≡ f = ap (λ s. s.now) i.stays.0 in
+    let here : c.loop-index.state.firing.now ≡ f = ap (λ s. s.now) i.stays.firing in
     let held = c.run.ensures.held in
     let before_held = i.held in
     record {
@@ -83,7 +83,7 @@ loop-index-preserved g c =
       functions = c.run.ensures.functions ∙ i.functions;
       taken = c.run.ensures.taken ∙ i.taken;
       held = omega (arith, most, held, before_held, long);
-      stays = stays_then c.args.state.now c.loop-index.state c.run.new.state i.stays c.run.ensures.state;
+      stays = stays_then g.C.Store.Store.seen c.args.state.now c.loop-index.state c.run.new.state i.stays c.run.ensures.state;
       all_made = λ slots cs mean fit good.
           let so_far = i.all_made slots cs mean fit good in
           turn_more f cs g.C.Clause.means slots clauses clause c.args.indices.now left index before now after old piece next c.loop-index.exits exited
@@ -97,12 +97,12 @@ pub returns-clause-notes : goal.returns-clause-notes
 returns-clause-notes g c = λ slots cs mean fit good.
     let f = c.args.state.now.firing.now in
     continues_all f cs _ _ _ _ _ c.loop-index.exits
-    (subst (λ (l : List ℕ). Continues f cs c.args.indices.now l (variables_in c.args.state.now) (variables_in c.loop-index.state) (piece_seen c.args.piece.now) (piece_seen c.loop-index.piece) c.loop-index.exits)
+    (subst (λ (l : List ℕ). Continues f cs c.args.indices.now l (variables_in g.C.Store.Store.seen c.args.state.now) (variables_in g.C.Store.Store.seen c.loop-index.state) (piece_seen c.args.piece.now) (piece_seen c.loop-index.piece) c.loop-index.exits)
     c.in_default.ensures (c.loop-index.invariant.all_made slots cs mean fit good).1)
 
 pub returns-clause-exits : goal.returns-clause-exits
 returns-clause-exits g c = λ slots cs mean fit good.
     let f = c.args.state.now.firing.now in
     exits_all f cs _ _ _ _ _ c.loop-index.exits
-    (subst (λ (l : List ℕ). Continues f cs c.args.indices.now l (variables_in c.args.state.now) (variables_in c.loop-index.state) (piece_seen c.args.piece.now) (piece_seen c.loop-index.piece) c.loop-index.exits)
+    (subst (λ (l : List ℕ). Continues f cs c.args.indices.now l (variables_in g.C.Store.Store.seen c.args.state.now) (variables_in g.C.Store.Store.seen c.loop-index.state) (piece_seen c.args.piece.now) (piece_seen c.loop-index.piece) c.loop-index.exits)
     c.in_default.ensures (c.loop-index.invariant.all_made slots cs mean fit good).1)

@@ -15,10 +15,10 @@ invariant-loop-index g l = record {
   functions : functions_of l.piece.table ≡ functions_of l.fn.piece.table;
   taken : l.piece.taken.items ≡ l.fn.piece.taken.items;
   held : count_held l.piece.table + 65536 * length l.left ≤ count_held l.fn.piece.table + 65536 * length l.fn.indices;
-  stays : Stays l.fn.state l.state;
+  stays : Stays g.C.Store.Store.seen l.fn.state l.state;
   all_made : (slots : Slots) (cs : List ClauseMeant) → AllMean g.C.Clause.means slots l.clauses cs → HasTypedBuiltIns l.fn.state.firing.now
-      → AreTyped slots (variables_in l.fn.state)
-      → AreTyped slots (variables_in l.state) × Continues l.fn.state.firing.now cs l.fn.indices l.left (variables_in l.fn.state) (variables_in l.state) (piece_seen l.fn.piece) (piece_seen l.piece) l.exits;
+      → AreTyped slots (variables_in g.C.Store.Store.seen l.fn.state)
+      → AreTyped slots (variables_in g.C.Store.Store.seen l.state) × Continues l.fn.state.firing.now cs l.fn.indices l.left (variables_in g.C.Store.Store.seen l.fn.state) (variables_in g.C.Store.Store.seen l.state) (piece_seen l.fn.piece) (piece_seen l.piece) l.exits;
 }
 
 abbrev pub decreases-loop-index : goal.decreases-loop-index

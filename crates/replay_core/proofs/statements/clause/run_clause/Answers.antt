@@ -13,15 +13,15 @@ use Rattle.replay_core.proofs.statements.clause.run_clause.Goals as goal
 
 pub note_fault-requires : goal.note_fault-requires
 note_fault-requires g c =
-    taken_still c.args.state.now c.evaluate_word.new.state c.args.piece.now c.args.piece.now c.evaluate_word.ensures.0 refl c.requires.taken
+    taken_still g.X.Store.Store.seen c.args.state.now c.evaluate_word.new.state c.args.piece.now c.args.piece.now c.evaluate_word.ensures.0 refl c.requires.taken
 
 pub returns-in-Err-DivideByZero-clause-run : goal.returns-in-Err-DivideByZero-clause-run
 returns-in-Err-DivideByZero-clause-run g c =
     let f = c.args.state.now.firing.now in
     let by = g.X.Expression.by f in
     let rest = statements_by by (map g.S.Statement.form c.args.statements.now) in
-    let vars = variables_in c.args.state.now in
-    let after = variables_in c.evaluate_word.new.state in
+    let vars = variables_in g.X.Store.Store.seen c.args.state.now in
+    let after = variables_in g.X.Store.Store.seen c.evaluate_word.new.state in
     let line = fault_line f.number c.args.index in
     let predicate = c.in-Some.predicate in
     let faults = subst (λ r. Returns (number_outcome (by.value predicate vars)) r after)
@@ -29,7 +29,7 @@ returns-in-Err-DivideByZero-clause-run g c =
     let run = ap (λ p. run_result line (where_predicate by p rest vars)) c.in-Some.is
     ∙ ap (λ o. run_result line (where_true o rest)) faults in
     let noted = c.in_ok-note_fault-in-Err-DivideByZero.ensures in
-    let same = number_stays c.args.state.now c.evaluate_word.new.state c.evaluate_word.ensures.0 in
+    let same = number_stays g.X.Store.Store.seen c.args.state.now c.evaluate_word.new.state c.evaluate_word.ensures.0 in
     let before : c.len-texts.result ≡ length c.args.piece.now.events.items = search rules in
     subst (λ m. NotesRun f.number m (piece_seen c.args.piece.now) (piece_seen c.note_fault.new.self) after false) (sym run)
     (predicate_faults f.number line (piece_seen c.args.piece.now) (piece_seen c.note_fault.new.self) after

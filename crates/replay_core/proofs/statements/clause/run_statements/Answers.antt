@@ -11,7 +11,7 @@ use Rattle.replay_core.specs.Evaluation.{variables_in}
 use Rattle.replay_core.specs.Seen.{piece_seen}
 use Rattle.replay_core.proofs.EffectLemmas.{SoFar, none_yet, goes_on, faults, ends}
 use Rattle.replay_core.proofs.IndexLemmas.{index_at}
-use Rattle.replay_core.proofs.StateLemmas.{number_stays, stays_then, taken_still}
+use Rattle.replay_core.proofs.StateLemmas.{number_stays, stays_refl, stays_then, taken_still}
 use Rattle.replay_core.proofs.statements.clause.run_statements.Goals as goal
 
 pub perform-requires-clause-index : goal.perform-requires-clause-index
@@ -24,19 +24,19 @@ perform-requires-clause-index g c =
 pub perform-requires-clause-taken : goal.perform-requires-clause-taken
 perform-requires-clause-taken g c =
     let i = c.loop-statement.invariant in
-    taken_still c.args.state.now c.loop-statement.state c.args.piece.now c.loop-statement.piece i.stays i.taken c.requires.taken
+    taken_still g.X.Store.Store.seen c.args.state.now c.loop-statement.state c.args.piece.now c.loop-statement.piece i.stays i.taken c.requires.taken
 
 pub note_fault-requires : goal.note_fault-requires
 note_fault-requires g c =
     let i = c.loop-statement.invariant in
-    let stays = stays_then c.args.state.now c.loop-statement.state c.perform.new.state i.stays c.perform.ensures.effect.0 in
-    taken_still c.args.state.now c.perform.new.state c.args.piece.now c.perform.new.piece stays (c.perform.ensures.taken ∙ i.taken) c.requires.taken
+    let stays = stays_then g.X.Store.Store.seen c.args.state.now c.loop-statement.state c.perform.new.state i.stays c.perform.ensures.effect.0 in
+    taken_still g.X.Store.Store.seen c.args.state.now c.perform.new.state c.args.piece.now c.perform.new.piece stays (c.perform.ensures.taken ∙ i.taken) c.requires.taken
 
 pub loop-statement-init : goal.loop-statement-init
 loop-statement-init g c = record {
   functions = refl;
   taken = refl;
-  stays = (refl, refl);
+  stays = stays_refl g.X.Store.Store.seen c.args.state.now;
   held = omega arith;
   so_far = none_yet c.args.state.now.firing.now.number _ (piece_seen c.args.piece.now);
 }
@@ -49,7 +49,7 @@ loop-statement-preserved g c =
     let all = c.args.statements.now in
     let i = c.loop-statement.statement-index in
     let item = c.statement-item.result in
-    let now = variables_in c.loop-statement.state in
+    let now = variables_in g.X.Store.Store.seen c.loop-statement.state in
     let left = statements_by by (map form (drop i all)) now in
     let o = effect_by by (form item) now in
     let go = statements_by by (map form (drop (i + 1) all)) in
@@ -57,17 +57,17 @@ loop-statement-preserved g c =
     subst (λ s. drop i all ≡ s ∷ drop (i + 1) all) (sym c.statement-item.is) (rw add-one (drop-cons all i item (search rules))) in
     let is : left ≡ effect_then o go = ap (λ l. statements_by by (map form l) now) cut in
     let stays = c.loop-statement.invariant.stays in
-    let performs = subst (λ s. Performs s.now.number (effect_by (g.X.Expression.by s.now) (form item) now) (piece_seen c.loop-statement.piece) (Ok c.in-Ok.exited) (piece_seen c.perform.new.piece) (variables_in c.perform.new.state))
-    stays.0 c.in-Ok.ensures.effect.1 in
+    let performs = subst (λ s. Performs s.now.number (effect_by (g.X.Expression.by s.now) (form item) now) (piece_seen c.loop-statement.piece) (Ok c.in-Ok.exited) (piece_seen c.perform.new.piece) (variables_in g.X.Store.Store.seen c.perform.new.state))
+    stays.firing c.in-Ok.ensures.effect.1 in
     let held = c.in-Ok.ensures.held in
     let held_before = c.loop-statement.invariant.held in
     record {
       functions = c.in-Ok.ensures.functions ∙ c.loop-statement.invariant.functions;
       taken = c.in-Ok.ensures.taken ∙ c.loop-statement.invariant.taken;
       held = omega (arith, held, held_before);
-      stays = stays_then c.args.state.now c.loop-statement.state c.perform.new.state stays c.in-Ok.ensures.effect.0;
-      so_far = goes_on f.number (statements_by by (map form all) (variables_in c.args.state.now)) left o go
-          (piece_seen c.args.piece.now) (piece_seen c.loop-statement.piece) (piece_seen c.perform.new.piece) (variables_in c.perform.new.state)
+      stays = stays_then g.X.Store.Store.seen c.args.state.now c.loop-statement.state c.perform.new.state stays c.in-Ok.ensures.effect.0;
+      so_far = goes_on f.number (statements_by by (map form all) (variables_in g.X.Store.Store.seen c.args.state.now)) left o go
+          (piece_seen c.args.piece.now) (piece_seen c.loop-statement.piece) (piece_seen c.perform.new.piece) (variables_in g.X.Store.Store.seen c.perform.new.state)
           c.loop-statement.exits c.in-Ok.exited (c.loop-statement.exits || c.in-Ok.exited) c.loop-statement.invariant.so_far is performs refl;
     }
 
@@ -79,7 +79,7 @@ returns-in-Err-DivideByZero-clause-run g c =
     let all = c.args.statements.now in
     let i = c.loop-statement.statement-index in
     let item = c.statement-item.result in
-    let now = variables_in c.loop-statement.state in
+    let now = variables_in g.X.Store.Store.seen c.loop-statement.state in
     let left = statements_by by (map form (drop i all)) now in
     let o = effect_by by (form item) now in
     let go = statements_by by (map form (drop (i + 1) all)) in
@@ -88,15 +88,15 @@ returns-in-Err-DivideByZero-clause-run g c =
     let is : left ≡ effect_then o go = ap (λ l. statements_by by (map form l) now) cut in
     let line = fault_line f.number c.args.index in
     let noted = c.in_ok-note_fault-in-Err-DivideByZero.ensures in
-    let stays = stays_then c.args.state.now c.loop-statement.state c.perform.new.state c.loop-statement.invariant.stays c.perform.ensures.effect.0 in
-    let same = number_stays c.args.state.now c.perform.new.state stays in
-    let performs = subst (λ s. Performs s.now.number (effect_by (g.X.Expression.by s.now) (form item) now) (piece_seen c.loop-statement.piece) c.perform.result (piece_seen c.perform.new.piece) (variables_in c.perform.new.state))
-    c.loop-statement.invariant.stays.0 c.perform.ensures.effect.1 in
+    let stays = stays_then g.X.Store.Store.seen c.args.state.now c.loop-statement.state c.perform.new.state c.loop-statement.invariant.stays c.perform.ensures.effect.0 in
+    let same = number_stays g.X.Store.Store.seen c.args.state.now c.perform.new.state stays in
+    let performs = subst (λ s. Performs s.now.number (effect_by (g.X.Expression.by s.now) (form item) now) (piece_seen c.loop-statement.piece) c.perform.result (piece_seen c.perform.new.piece) (variables_in g.X.Store.Store.seen c.perform.new.state))
+    c.loop-statement.invariant.stays.firing c.perform.ensures.effect.1 in
     let before : c.len-before.result ≡ length c.args.piece.now.events.items = search rules in
-    faults f.number line (statements_by by (map form all) (variables_in c.args.state.now)) left o go
-    (piece_seen c.args.piece.now) (piece_seen c.loop-statement.piece) (piece_seen c.perform.new.piece) (piece_seen c.note_fault.new.self) (variables_in c.perform.new.state)
+    faults f.number line (statements_by by (map form all) (variables_in g.X.Store.Store.seen c.args.state.now)) left o go
+    (piece_seen c.args.piece.now) (piece_seen c.loop-statement.piece) (piece_seen c.perform.new.piece) (piece_seen c.note_fault.new.self) (variables_in g.X.Store.Store.seen c.perform.new.state)
     c.loop-statement.exits c.loop-statement.invariant.so_far is
-    (subst (λ r. Performs f.number o (piece_seen c.loop-statement.piece) r (piece_seen c.perform.new.piece) (variables_in c.perform.new.state))
+    (subst (λ r. Performs f.number o (piece_seen c.loop-statement.piece) r (piece_seen c.perform.new.piece) (variables_in g.X.Store.Store.seen c.perform.new.state))
     (c.in-Err-DivideByZero.is ∙ ap (λ e. Err e) c.in-Err-DivideByZero.field-0-is) performs)
     (noted.texts ∙ ap (λ n. take c.len-before.result c.perform.new.piece.events.items ++ (n, fault_line n c.args.index) ∷ []) same
     ∙ ap (λ n. take n c.perform.new.piece.events.items ++ (f.number, line) ∷ []) before) noted.table noted.taken noted.exit
@@ -108,8 +108,8 @@ returns-clause-run g c =
     let form = g.S.Statement.form in
     let all = c.args.statements.now in
     let i = c.loop-statement.statement-index in
-    let now = variables_in c.loop-statement.state in
-    let whole = statements_by by (map form all) (variables_in c.args.state.now) in
+    let now = variables_in g.X.Store.Store.seen c.loop-statement.state in
+    let whole = statements_by by (map form all) (variables_in g.X.Store.Store.seen c.args.state.now) in
     let none : drop i all ≡ [] = drop_all i all (omega arith) in
     ends f.number (fault_line f.number c.args.index) whole (piece_seen c.args.piece.now) (piece_seen c.loop-statement.piece) now c.loop-statement.exits
     (subst (λ l. SoFar f.number whole (statements_by by (map form l) now) (piece_seen c.args.piece.now) (piece_seen c.loop-statement.piece) c.loop-statement.exits)

@@ -11,9 +11,9 @@ invariant-loop-statement g l = record {
   functions : functions_of l.piece.table ≡ functions_of l.fn.piece.table;
   taken : l.piece.taken.items ≡ l.fn.piece.taken.items;
   held : count_held l.piece.table ≤ count_held l.fn.piece.table + l.statement-index;
-  stays : Stays l.fn.state l.state;
+  stays : Stays g.X.Store.Store.seen l.fn.state l.state;
   so_far : SoFar l.fn.state.firing.now.number
-      (statements_by (g.X.Expression.by l.fn.state.firing.now) (map g.S.Statement.form l.statements) (variables_in l.fn.state))
-      (statements_by (g.X.Expression.by l.fn.state.firing.now) (map g.S.Statement.form (drop l.statement-index l.statements)) (variables_in l.state))
+      (statements_by (g.X.Expression.by l.fn.state.firing.now) (map g.S.Statement.form l.statements) (variables_in g.X.Store.Store.seen l.fn.state))
+      (statements_by (g.X.Expression.by l.fn.state.firing.now) (map g.S.Statement.form (drop l.statement-index l.statements)) (variables_in g.X.Store.Store.seen l.state))
       (piece_seen l.fn.piece) (piece_seen l.piece) l.exits;
 }

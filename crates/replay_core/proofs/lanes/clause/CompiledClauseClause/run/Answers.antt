@@ -8,6 +8,7 @@ use Rattle.dif_codegen.specs.Programs.{action_code}
 use Rattle.replay_core.specs.Bounds.{indices_among}
 use Rattle.replay_core.specs.Effects.{NotesRun}
 use Rattle.replay_core.specs.Evaluation.{variables_in}
+use Rattle.replay_core.specs.WordStore.{words_seen}
 use Rattle.replay_core.specs.Seen.{piece_seen}
 use Rattle.replay_core.specs.Steps.EffectRuns.{ran_by}
 use Rattle.replay_core.proofs.EffectRuns.{run_by_is}
@@ -33,8 +34,8 @@ pub returns-clause-run : goal.returns-clause-run
 returns-clause-run c =
     let f = c.args.state.now.firing.now in
     let line = fault_line f.number c.args.index in
-    let vars = variables_in c.args.state.now in
-    let left = variables_in c.run_clause.new.state in
+    let vars = variables_in words_seen c.args.state.now in
+    let left = variables_in words_seen c.run_clause.new.state in
     let by = by_objects f in
     let same = ap (λ l. ran_by by line c.args.self.now.predicate (map action_code l) vars) c.deref.ensures.value
     ∙ sym (run_by_is by line c.args.self.now.predicate (map action_code c.args.self.now.actions.items) vars) in

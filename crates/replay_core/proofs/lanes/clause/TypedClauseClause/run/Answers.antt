@@ -8,6 +8,7 @@ use Rattle.d_types.specs.Typed.{action_of}
 use Rattle.replay_core.specs.Bounds.{indices_among}
 use Rattle.replay_core.specs.Effects.{NotesRun}
 use Rattle.replay_core.specs.Evaluation.{variables_in}
+use Rattle.replay_core.specs.Threads.{tables_seen}
 use Rattle.replay_core.specs.Forms.{by_expressions, statement_form}
 use Rattle.replay_core.specs.Seen.{piece_seen}
 use Rattle.replay_core.specs.Steps.EffectRuns.{ran_by}
@@ -39,10 +40,10 @@ returns-clause-run c =
     let f = c.args.state.now.firing.now in
     let clause = c.args.self.now in
     let line = fault_line f.number c.args.index in
-    let vars = variables_in c.args.state.now in
+    let vars = variables_in tables_seen c.args.state.now in
     let same = ap (λ l. ran_by (by_expressions f) line clause.predicate (map statement_form l) vars) c.deref.ensures.value
     ∙ run_same f line clause.predicate clause.statements.items vars in
-    let left = variables_in c.run_clause.new.state in
+    let left = variables_in tables_seen c.run_clause.new.state in
     IfOk-weaker c.run_clause.result
     (λ exits. NotesRun f.number (ran_by (by_expressions f) line clause.predicate (map statement_form c.deref.result.now) vars) (piece_seen c.args.piece.now) (piece_seen c.run_clause.new.piece) left exits)
     _ (λ exits noted slots meant is fit good.

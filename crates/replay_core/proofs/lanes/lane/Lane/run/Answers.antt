@@ -9,7 +9,7 @@ use Rattle.d_types.proofs.FiringValues.{firing_is}
 use Rattle.replay_core.specs.Meaning.{at_start, firing_result, threads_after}
 use Rattle.replay_core.specs.Patterns.{probe_of}
 use Rattle.replay_core.specs.Seen.{piece_seen}
-use Rattle.replay_core.specs.Threads.{threads_in}
+use Rattle.replay_core.specs.Threads.{threads_of}
 use Rattle.replay_core.specs.Steps.AllMade.{all_made}
 use Rattle.replay_core.proofs.FiringLemmas.{goes_on, indices_within, some_same}
 use Rattle.replay_core.proofs.FiringLemmas.{all_made_are}
@@ -54,7 +54,7 @@ returns-clause-room g c =
 pub returns-clause-step : goal.returns-clause-step
 returns-clause-step g c =
     let f = c.args.firing.now in
-    let threads = threads_in c.args.self.now.threads.entries in
+    let threads = threads_of (g.C.Store.Store.seen c.args.self.now.store) in
     let start = at_start (threads f.thread) in
     let fit = firing_is f c.requires.ranges in
     IfOk-weaker c.run_on_thread.result _ _ (λ exits told m runs selected typed.
@@ -71,7 +71,7 @@ returns-clause-step g c =
 pub returns-clause-exits : goal.returns-clause-exits
 returns-clause-exits g c =
     let f = c.args.firing.now in
-    let threads = threads_in c.args.self.now.threads.entries in
+    let threads = threads_of (g.C.Store.Store.seen c.args.self.now.store) in
     let start = at_start (threads f.thread) in
     let fit = firing_is f c.requires.ranges in
     IfOk-weaker c.run_on_thread.result _ _ (λ exits told m runs selected typed.
@@ -83,13 +83,13 @@ returns-clause-exits g c =
 pub returns-clause-typed : goal.returns-clause-typed
 returns-clause-typed g c =
     let f = c.args.firing.now in
-    let threads = threads_in c.args.self.now.threads.entries in
+    let threads = threads_of (g.C.Store.Store.seen c.args.self.now.store) in
     let start = at_start (threads f.thread) in
     let fit = firing_is f c.requires.ranges in
     IfOk-weaker c.run_on_thread.result _ _ (λ exits told m runs selected typed thread.
     let run = told (slots_of m) m.clauses runs.clauses_mean fit (typed f.thread) in
     let is : all_made f m.clauses c.args.indices.now start ≡ firing_result m f (threads f.thread) =
     ap (λ l. all_made f m.clauses l start) selected ∙ all_made_are m f start in
-    let left : threads_in c.run_on_thread.new.threads.entries thread ≡ threads_after m f threads thread =
+    let left : threads_of (g.C.Store.Store.seen c.run_on_thread.new.store) thread ≡ threads_after m f threads thread =
     run.threads thread ∙ ap (λ r. if int_eq thread f.thread then r.variables.own else threads thread) is in
     subst (AreTypedOwn (slots_of m)) (sym left) (typed_after m f threads runs.clauses_mean.keep fit typed thread)) c.run_on_thread.ensures.run

@@ -1,0 +1,205 @@
+-- Cells of a table of words.
+use Rattle.std.specs.Prelude.{◌==◌, ◌≡◌, ◌<◌, ◌≤◌, ◌^◌, ℕ, Bool, true, false, ◌&&◌, List, [], ◌∷◌}
+use Rattle.std.specs.Prelude.{length, map, Some, if◌then◌else◌, slice_get}
+use Rattle.std.proofs.Common.{refl, sym, ap, subst, ◌∙◌, arith, get_or, true≢false}
+use Rattle.std.specs.Cmp.{signed_Decides}
+use Rattle.std.specs.Cmp.Derive.{both_true}
+use Rattle.std.specs.List.{All, position_or_len}
+use Rattle.std.proofs.lemmas.Bool.Decides.{Decides-eqb, Decides-ltb}
+use Rattle.std.proofs.lemmas.Int.{of_z-to_z}
+use Rattle.std.proofs.lemmas.List.{length-map}
+use Rattle.std.proofs.lemmas.List.Sums.{position_or_len_is, passes_at_first}
+use Rattle.std.proofs.lemmas.List.Elements.{All-head, All-tail}
+use Rattle.std.proofs.lemmas.Option.{slice_get-get_or}
+use Rattle.d_values.specs.Keys.{part_of, same_key}
+use Rattle.d_values.specs.KeyLaws.{same_key_decides}
+use Rattle.d_values.specs.Storage.{as_kind}
+use Rattle.d_values.specs.Stores.{kind_of, with_own}
+use Rattle.d_values.specs.Texts.{same_text, same_text_decides}
+use Rattle.d_values.specs.Variables.{same_var, same_var_decides, variable_number}
+use Rattle.d_values.specs.declared.value.Kind.TheVariants as kind
+use Rattle.numbered.specs.Tables.{Entries, key_of, word_in, with_word, same_words}
+use Rattle.numbered.specs.Texts.{AreDistinct, text_at}
+use Rattle.numbered.specs.Words.{bits_of, word_of}
+use Rattle.numbered.specs.declared.word.Word.{Word}
+use Rattle.numbered.specs.declared.word.Word.TheVariants as word
+use Rattle.numbered.proofs.Indices.{same_words_decides}
+use Rattle.dif_machine.specs.Vocabulary.{cast_signed, cast_unsigned, w64, Kind, KeyPart, Number, Name, Var}
+use Rattle.dif_machine.specs.Machine.{IsWithin, key_in, value_of}
+use Rattle.dif_machine.specs.CellLaws.{second_true}
+use Rattle.numbered.specs.Shapes.{shape_of}
+use Rattle.numbered.proofs.Shaped.{digits_same, shape_below}
+use Rattle.dif_machine.specs.Cells.{words_beside, cell_key, cell_of, is_of_word, word_of_part, words_of, own_in, IsTableOver}
+
+first_true : (a b : Bool) → a && b ≡ true → a ≡ true
+first_true true b e = refl
+first_true false b e = e
+
+-- ---- keys of cells tell variables and words apart
+
+abbrev tail_of : List ℕ → List ℕ
+tail_of [] = []
+tail_of (n ∷ ns) = ns
+
+pub keys_same : (t u : ℕ) (x y : Var) (a b : List Word) → length a ≤ 8 → cell_key t x a ≡ cell_key u y b → (x ≡ y) × (a ≡ b)
+keys_same t u x y a b few e =
+    let bits : map bits_of a ≡ map bits_of b = ap (λ l. tail_of (tail_of l)) e in
+    let long : length a ≡ length b = sym (length-map a bits_of) ∙ ap length bits ∙ length-map b bits_of in
+    let cells : cell_of x a ≡ cell_of y b = ap (λ l. get_or l 1 0) e in
+    let first = shape_below a 8 few in
+    let second = shape_below b 8 (omega (arith, few, long)) in
+    let vars : variable_number x ≡ variable_number y = omega (arith, cells, first, second) in
+    let shapes : shape_of a ≡ shape_of b = omega (arith, cells, first, second) in
+    ((same_var_decides x y).0 ((Decides-eqb (variable_number x) (variable_number y)).1 vars), (digits_same 1 1 a b bits shapes).1)
+
+pub key_is : (thread : ℕ) (x : Var) (key : List Word) (cell : ℕ) (words : List Word) → cell ≡ cell_of x key → words ≡ key → key_of thread cell words ≡ cell_key thread x key
+key_is thread x key cell words e f = ap (λ n. key_of thread n words) e ∙ ap (key_of thread (cell_of x key)) f
+
+-- ---- words and the parts of keys
+
+module _ (texts : List (List ℕ)) where
+  pub part_word : AreDistinct texts → (w : Word) → IsWithin texts w → word_of_part texts (part_of (value_of texts w)) ≡ w
+  part_word distinct (word.Int n) h =
+      let back : cast_unsigned w64 (cast_signed w64 n) ≡ n = of_z-to_z w64 n h in
+      let is : is_of_word (cast_signed w64 n) ≡ true = both_true
+      ((signed_Decides (cast_signed w64 (cast_unsigned w64 (cast_signed w64 n))) (cast_signed w64 n)).1 (ap (cast_signed w64) back))
+      ((Decides-ltb (cast_unsigned w64 (cast_signed w64 n)) (2 ^ 64)).1 (subst (λ m. m < 2 ^ 64) (sym back) h)) in
+      ap (λ b. if b then word.Int (cast_unsigned w64 (cast_signed w64 n)) else word.Text (length texts)) is ∙ ap word.Int back
+  part_word distinct (word.Text t) h =
+      ap word.Text (position_or_len_is (same_text (text_at texts t)) texts t [] (omega (arith, h)) before (λ i. (same_text_decides (text_at texts t) (text_at texts t)).1 refl))
+    where
+      before : (k : ℕ) → k < t → same_text (text_at texts t) (get_or texts k []) ≡ false
+      before k less = elim (same_text (text_at texts t) (get_or texts k [])) as (λ b. same_text (text_at texts t) (get_or texts k []) ≡ b → b ≡ false) [
+        | true ↦ λ e.
+            let same = (same_text_decides (text_at texts t) (get_or texts k [])).0 e in
+            let first : slice_get texts k ≡ Some (text_at texts k) = slice_get-get_or texts k [] (omega (arith, less, h)) in
+            let second : slice_get texts t ≡ Some (text_at texts k) = slice_get-get_or texts t [] h ∙ ap Some same in
+            let one : k ≡ t = distinct k t (text_at texts k) first second in
+            absurd (omega (arith, less, one))
+        | false ↦ λ e. refl
+      ] refl
+
+  pub word_part : (p : KeyPart) → IsWithin texts (word_of_part texts p) → part_of (value_of texts (word_of_part texts p)) ≡ p
+  word_part (Number z) h = elim (is_of_word z) as (λ b. is_of_word z ≡ b → IsWithin texts (if b then word.Int (cast_unsigned w64 z) else word.Text (length texts))
+      → part_of (value_of texts (if b then word.Int (cast_unsigned w64 z) else word.Text (length texts))) ≡ Number z) [
+        | true ↦ λ e i. ap Number ((signed_Decides (cast_signed w64 (cast_unsigned w64 z)) z).0 (first_true _ _ e))
+        | false ↦ λ e i. absurd (omega (arith, i))
+      ] refl h
+  word_part (Name bytes) h =
+      ap Name (sym ((same_text_decides bytes (text_at texts (position_or_len (same_text bytes) texts))).0 (passes_at_first (same_text bytes) texts [] h)))
+
+  pub parts_words : AreDistinct texts → (ws : List Word) → All (IsWithin texts) ws → words_of texts (key_in texts ws) ≡ ws
+  parts_words distinct [] all = refl
+  parts_words distinct (w ∷ ws) all =
+      ap (λ v. v ∷ words_of texts (key_in texts ws)) (part_word distinct w (All-head (IsWithin texts) w ws all))
+      ∙ ap (λ vs. w ∷ vs) (parts_words distinct ws (All-tail (IsWithin texts) w ws all))
+
+  pub words_parts : (ps : List KeyPart) → All (IsWithin texts) (words_of texts ps) → key_in texts (words_of texts ps) ≡ ps
+  words_parts [] all = refl
+  words_parts (p ∷ ps) all =
+      ap (λ q. q ∷ key_in texts (words_of texts ps)) (word_part p (All-head (IsWithin texts) (word_of_part texts p) (words_of texts ps) all))
+      ∙ ap (λ qs. p ∷ qs) (words_parts ps (All-tail (IsWithin texts) (word_of_part texts p) (words_of texts ps) all))
+
+-- ---- a cell that is set
+
+chosen : (b : Bool) → b ≡ true → (m n : ℕ) → (if b then m else n) ≡ m
+chosen true e m n = refl
+chosen false e m n = absurd (true≢false (sym e))
+
+other : (b : Bool) → b ≡ false → (m n : ℕ) → (if b then m else n) ≡ n
+other true e m n = absurd (true≢false e)
+other false e m n = refl
+
+module _ (texts : List (List ℕ)) (old new : Entries) (thread : ℕ) (x : Var) (words : List Word) (w : Word) (distinct : AreDistinct texts) (t : IsTableOver texts old) (few : length words ≤ 8)
+    (all : All (IsWithin texts) words) (within : IsWithin texts w) (kind_is : word_of x.kind (bits_of w) ≡ w) (set : word_in new ≡ with_word (word_in old) (cell_key thread x words) (bits_of w)) where
+  now_is : (key : List ℕ) → word_in new key ≡ with_word (word_in old) (cell_key thread x words) (bits_of w) key
+  now_is key = ap (λ f. f key) set
+
+  pub table_set : IsTableOver texts new
+  table_set = record {
+    empty = t.empty;
+    keys = λ u y ws no. elim (same_words (cell_key thread x words) (cell_key u y ws)) as (λ b. same_words (cell_key thread x words) (cell_key u y ws) ≡ b → word_in new (cell_key u y ws) ≡ 0) [
+      | true ↦ λ e.
+          let same = keys_same thread u x y words ws few ((same_words_decides (cell_key thread x words) (cell_key u y ws)).0 e) in
+          absurd (no (subst (All (IsWithin texts)) same.1 all))
+      | false ↦ λ e. now_is (cell_key u y ws) ∙ other _ e (bits_of w) (word_in old (cell_key u y ws)) ∙ t.keys u y ws no
+    ] refl;
+    values = λ u y ws. elim (same_words (cell_key thread x words) (cell_key u y ws)) as (λ b. same_words (cell_key thread x words) (cell_key u y ws) ≡ b → IsWithin texts (word_of y.kind (word_in new (cell_key u y ws)))) [
+      | true ↦ λ e.
+          let same = keys_same thread u x y words ws few ((same_words_decides (cell_key thread x words) (cell_key u y ws)).0 e) in
+          let is : word_in new (cell_key u y ws) ≡ bits_of w = now_is (cell_key u y ws) ∙ chosen _ e (bits_of w) (word_in old (cell_key u y ws)) in
+          subst (λ n. IsWithin texts (word_of y.kind n)) (sym is) (subst (λ v. IsWithin texts (word_of v.kind (bits_of w))) same.0 (subst (IsWithin texts) (sym kind_is) within))
+      | false ↦ λ e. subst (λ n. IsWithin texts (word_of y.kind n)) (sym (now_is (cell_key u y ws) ∙ other _ e (bits_of w) (word_in old (cell_key u y ws)))) (t.values u y ws)
+    ] refl;
+  }
+
+  here : own_in texts new thread x (key_in texts words) ≡ value_of texts w
+  here =
+      ap (λ ws. value_of texts (word_of x.kind (word_in new (cell_key thread x ws)))) (parts_words texts distinct words all)
+      ∙ ap (λ n. value_of texts (word_of x.kind n)) (now_is (cell_key thread x words) ∙ chosen _ ((same_words_decides (cell_key thread x words) (cell_key thread x words)).1 refl) (bits_of w) (word_in old (cell_key thread x words)))
+      ∙ ap (value_of texts) kind_is
+
+  elsewhere : (y : Var) (key : List KeyPart) → same_var x y && same_key (key_in texts words) key ≡ false → own_in texts new thread y key ≡ own_in texts old thread y key
+  elsewhere y key apart = elim (same_words (cell_key thread x words) (cell_key thread y (words_of texts key))) as (λ b. same_words (cell_key thread x words) (cell_key thread y (words_of texts key)) ≡ b → own_in texts new thread y key ≡ own_in texts old thread y key) [
+    | true ↦ λ e.
+        let same = keys_same thread thread x y words (words_of texts key) few ((same_words_decides (cell_key thread x words) (cell_key thread y (words_of texts key))).0 e) in
+        let key_is : key_in texts words ≡ key = ap (key_in texts) same.1 ∙ words_parts texts key (subst (All (IsWithin texts)) same.1 all) in
+        absurd (true≢false (sym (both_true ((same_var_decides x y).1 same.0) ((same_key_decides (key_in texts words) key).1 key_is)) ∙ apart))
+    | false ↦ λ e. ap (λ n. value_of texts (word_of y.kind n)) (now_is (cell_key thread y (words_of texts key)) ∙ other _ e (bits_of w) (word_in old (cell_key thread y (words_of texts key))))
+  ] refl
+
+  pub own_set : own_in texts new thread ≡ with_own (own_in texts old thread) x (key_in texts words) (value_of texts w)
+  own_set i y key = by (same_var x y && same_key (key_in texts words) key) refl i
+    where
+      by : (b : Bool) → same_var x y && same_key (key_in texts words) key ≡ b → own_in texts new thread y key ≡ (if b then value_of texts w else own_in texts old thread y key)
+      by true e =
+          let var = (same_var_decides x y).0 (first_true _ _ e) in
+          let key_is = (same_key_decides (key_in texts words) key).0 (second_true _ _ e) in
+          ap (λ k. own_in texts new thread y k) (sym key_is) ∙ ap (λ v. own_in texts new thread v (key_in texts words)) (sym var) ∙ here
+      by false e = elsewhere y key e
+
+pub kind_word : (texts : List (List ℕ)) (k : Kind) (w : Word) → kind_of (value_of texts w) ≡ k → word_of k (bits_of w) ≡ w
+kind_word texts kind.Number (word.Int n) e = refl
+kind_word texts kind.Text (word.Text n) e = refl
+kind_word texts kind.Number (word.Text n) e = absurd cc
+kind_word texts kind.Text (word.Int n) e = absurd cc
+
+pub as_it_is : (texts : List (List ℕ)) (k : Kind) (n : ℕ) → value_of texts (word_of k n) ≡ as_kind k (value_of texts (word_of k n))
+as_it_is texts kind.Number n = refl
+as_it_is texts kind.Text n = refl
+
+-- what is known of a table is known of another that reads the same
+pub table_same : (texts : List (List ℕ)) (old new : Entries) → word_in new ≡ word_in old → IsTableOver texts old → IsTableOver texts new
+table_same texts old new same t = record {
+  empty = t.empty;
+  keys = λ u y ws no. ap (λ f. f (cell_key u y ws)) same ∙ t.keys u y ws no;
+  values = λ u y ws. subst (λ f. IsWithin texts (word_of y.kind (f (cell_key u y ws)))) (sym same) (t.values u y ws);
+}
+
+-- ---- the other threads
+
+pub beside_same : (old new : Entries) (thread : ℕ) → word_in new ≡ word_in old → words_beside new thread ≡ words_beside old thread
+beside_same old new thread same = λ i key. is key i
+  where
+    is : (key : List ℕ) → words_beside new thread key ≡ words_beside old thread key
+    is [] = refl
+    is (other ∷ key) = ap (λ (words : List ℕ → ℕ). if other == thread then 0 else words (other ∷ key)) same
+
+pub beside_set : (old new : Entries) (thread : ℕ) (x : Var) (words : List Word) (bits : ℕ) → word_in new ≡ with_word (word_in old) (cell_key thread x words) bits
+    → words_beside new thread ≡ words_beside old thread
+beside_set old new thread x words bits set = λ i key. is key i
+  where
+    is : (key : List ℕ) → words_beside new thread key ≡ words_beside old thread key
+    is [] = refl
+    is (other ∷ key) = elim (other == thread) as (λ b. (other == thread) ≡ b → (if b then 0 else word_in new (other ∷ key)) ≡ (if b then 0 else word_in old (other ∷ key))) [
+      | true ↦ λ e. refl
+      | false ↦ λ e.
+          let apart : same_words (cell_key thread x words) (other ∷ key) ≡ false = elim (same_words (cell_key thread x words) (other ∷ key)) as (λ b. same_words (cell_key thread x words) (other ∷ key) ≡ b → b ≡ false) [
+            | true ↦ λ s.
+                let one : cell_key thread x words ≡ other ∷ key = (same_words_decides (cell_key thread x words) (other ∷ key)).0 s in
+                let first : thread ≡ other = ap (λ l. get_or l 0 0) one in
+                absurd (true≢false (sym ((Decides-eqb other thread).1 (sym first)) ∙ e))
+            | false ↦ λ s. refl
+          ] refl in
+          ap (λ (words : List ℕ → ℕ). words (other ∷ key)) set ∙ ap (λ b. if b then bits else word_in old (other ∷ key)) apart
+    ] refl

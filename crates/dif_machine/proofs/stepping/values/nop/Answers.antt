@@ -1,8 +1,0 @@
-use Rattle.dif_machine.specs.Vocabulary.{object_of}
-use Rattle.dif_machine.specs.Held.{frame_of}
-use Rattle.dif_machine.proofs.Acting as acting
-use Rattle.dif_machine.proofs.stepping.values.nop.Goals as goal
-
-pub returns : goal.returns
-returns c =
-    λ difo f may vars. let o = object_of difo in acting.nop o f (frame_of o f c.args.frame.now) vars _ (c.go_on.ensures o f)

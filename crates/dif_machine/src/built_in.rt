@@ -1,0 +1,122 @@
+//! Built-in variables.
+
+ghost use Rattle.std.specs.Prelude.{◌≡◌, ◌≢◌, ◌≤◌, ◌<◌, None, Some, IfOk, length};
+ghost use Rattle.numbered.specs.Texts.{Keeps, text_at};
+ghost use Rattle.dif_machine.specs.Machine.{AreNumbers, IsWordOf, Knows, found_of};
+ghost use Rattle.dif_machine.specs.Sources.{argument_of, built_in_of};
+ghost use Rattle.dif_machine.specs.Vocabulary.{Text, Value};
+
+use firings::Firing;
+use numbered::{Texts, Word};
+use std::alloc::AllocError;
+
+/// The numbers of execname and of the four texts of a firing's probe, if they were found.
+pub(crate) type Numbers = [Option<u64>; 5];
+
+/// The word of a built-in variable.
+#[inline(always)]
+pub(crate) fn built_in(
+    texts: &mut Texts,
+    numbers: &mut Numbers,
+    firing: &Firing,
+    v: u8,
+) -> Result<Word, AllocError>
+    requires there { built_in_of firing.now v ≢ None }
+    requires known { Knows firing.now (found_of texts.old numbers.old) }
+    requires numbers { AreNumbers texts.old numbers.old }
+    ensures kept { Keeps texts.old texts.new }
+    ensures known { Knows firing.now (found_of texts.new numbers.new) }
+    ensures numbers { AreNumbers texts.new numbers.new }
+    ensures word { IfOk result (λ word. (value : Value)
+        → built_in_of firing.now v ≡ Some value → IsWordOf texts.new word value) }
+{
+    match v {
+        0 => Ok(Word::Int(time(firing))),
+        1 => Ok(Word::Int(i64::from(firing.cpu).cast_unsigned())),
+        2 => Ok(Word::Int(i64::from(firing.pid).cast_unsigned())),
+        3 => Ok(Word::Int(i64::from(firing.thread).cast_unsigned())),
+        _ => {
+            let number = text_number(texts, numbers, firing, v)?;
+            Ok(Word::Text(number))
+        }
+    }
+}
+
+// The number of a built-in variable that is a text.
+#[inline(always)]
+fn text_number(
+    texts: &mut Texts,
+    numbers: &mut Numbers,
+    firing: &Firing,
+    v: u8,
+) -> Result<u64, AllocError>
+    requires there { built_in_of firing.now v ≢ None }
+    requires text { (4 ≤ v) × (v < 9) }
+    requires known { Knows firing.now (found_of texts.old numbers.old) }
+    requires numbers { AreNumbers texts.old numbers.old }
+    ensures kept { Keeps texts.old texts.new }
+    ensures known { Knows firing.now (found_of texts.new numbers.new) }
+    ensures numbers { AreNumbers texts.new numbers.new }
+    ensures number { IfOk result
+        (λ n. built_in_of firing.now v ≡ Some (Text (text_at texts.new n))) }
+    ensures within { IfOk result (λ n. n < length texts.new) }
+{
+    match numbers[v as usize - 4] {
+        Some(number) => Ok(number),
+        None => find(texts, numbers, firing, v),
+    }
+}
+
+// The same if it isn't known.
+#[inline(never)]
+fn find(texts: &mut Texts, numbers: &mut Numbers, firing: &Firing, v: u8) -> Result<u64, AllocError>
+    requires there { built_in_of firing.now v ≢ None }
+    requires text { (4 ≤ v) × (v < 9) }
+    requires known { Knows firing.now (found_of texts.old numbers.old) }
+    requires numbers { AreNumbers texts.old numbers.old }
+    ensures kept { Keeps texts.old texts.new }
+    ensures known { Knows firing.now (found_of texts.new numbers.new) }
+    ensures numbers { AreNumbers texts.new numbers.new }
+    ensures number { IfOk result
+        (λ n. built_in_of firing.now v ≡ Some (Text (text_at texts.new n))) }
+    ensures within { IfOk result (λ n. n < length texts.new) }
+{
+    let number = texts.number(text(firing, v))?;
+    numbers[v as usize - 4] = Some(number);
+    Ok(number)
+}
+
+// The firing's time.
+#[inline(always)]
+fn time(firing: &Firing) -> u64
+    ensures { result ≡ firing.now.time }
+{
+    firing.time
+}
+
+// The bytes of a built-in variable that is a text.
+#[inline(always)]
+#[tactic(auto, using(crate::proofs::BuiltIns::past_the_last))]
+fn text<'a>(firing: &'a Firing, v: u8) -> &'a [u8]
+    requires there { built_in_of firing.now v ≢ None }
+    requires text { 4 ≤ v }
+    ensures is { built_in_of firing.now v ≡ Some (Value.Text result.now) }
+    ensures known { v < 9 }
+{
+    match v {
+        4 => firing.execname.as_bytes(),
+        5 => firing.provider.as_bytes(),
+        6 => firing.probemod.as_bytes(),
+        7 => firing.probefunc.as_bytes(),
+        8 => firing.name.as_bytes(),
+        _ => unreachable!(),
+    }
+}
+
+/// The firing's argument of this number, 0 past the last.
+#[inline(always)]
+pub(crate) fn argument(firing: &Firing, n: u64) -> u64
+    ensures { result ≡ argument_of firing.now n }
+{
+    firing.args.nth(n as usize).cast_unsigned()
+}

@@ -1,0 +1,457 @@
+//! What changes from step to step, but for the variables.
+
+ghost use Rattle.std.specs.Prelude.{◌≡◌, ◌≢◌, ◌<◌, ◌++◌, ◌∷◌, [], ℕ, List, length};
+ghost use Rattle.std.specs.Prelude.{Some, None, IfOk, OnErr, OnOk};
+ghost use Rattle.numbered.specs.Texts.{Keeps, text_at};
+ghost use Rattle.d_values.specs.{Keys.part_of, Texts.joined_text};
+ghost use Rattle.dif_machine.specs.Vocabulary.{at, kind_of, set_local, set_own, Value};
+ghost use Rattle.dif_machine.specs.{Operators.call_of};
+ghost use Rattle.dif_machine.specs.Sources.{built_in_of, local_in, own_value};
+ghost use Rattle.dif_machine.specs.Frames.{start, with_known, with_parts, with_register};
+ghost use Rattle.dif_machine.specs.Machine.{IsContentWithin, IsWithin, IsWordOf, Knows, content_of};
+ghost use Rattle.dif_machine.specs.Machine.{key_in, knows_nothing, value_of};
+
+use crate::built_in::{Numbers, built_in};
+use crate::comparing::Comparison;
+use crate::content::Content;
+use crate::memory::Memory;
+use crate::tables::value_in;
+use d_values::{Value, Var, join_text};
+use dif_validate::{Function, Reg};
+use firings::Firing;
+use keyed_hash::HashKey;
+use numbered::{Texts, Tuple, Word};
+use std::alloc::{AllocError, Global};
+use std::marker::Model;
+
+// The first register is 0, and no other is set.
+const FIRST: [Content; 8] = [
+    Content::Int(0),
+    Content::Unset,
+    Content::Unset,
+    Content::Unset,
+    Content::Unset,
+    Content::Unset,
+    Content::Unset,
+    Content::Unset,
+];
+
+/// The registers, the comparison and the tuple, the texts that have numbers, and what was found of
+/// a firing's texts. Contracts see the texts, the frame that the words stand for, at index 0, and
+/// those of the firing's texts that were found.
+#[derive(Drop)]
+pub struct Machine {
+    alloc: Global,
+    registers: [Content; 8],
+    comparison: Option<Comparison>,
+    tuple: Tuple,
+    texts: Texts,
+    numbers: Numbers,
+}
+
+impl Model for Machine {
+    ghost use Rattle.dif_machine.specs.Machine.{IsSound, Seen, contents, found_of, key_in};
+
+    ghost Value = { Seen };
+
+    ghost view = { λ m. record {
+      texts = m.texts;
+      frame = record {
+        pc = 0;
+        registers = contents m.texts m.registers;
+        comparison = m.comparison;
+        tuple = key_in m.texts m.tuple;
+      };
+      known = found_of m.texts m.numbers;
+    } };
+
+    ghost invariant = { λ m. IsSound m.texts m.registers m.tuple m.numbers };
+}
+
+impl Machine {
+    /// A machine for any number of runs, one after another. Of texts the empty one has a number.
+    ///
+    /// ```text
+    /// let mut machine = Machine::new(alloc, hash_key)?;
+    /// ```
+    pub fn new(alloc: Global, hash_key: HashKey) -> Result<Machine, AllocError>
+        ensures texts { IfOk result (λ m. m.texts ≡ [] ∷ []) }
+        ensures frame { IfOk result (λ m. m.frame ≡ start) }
+        ensures known { IfOk result (λ m. m.known ≡ knows_nothing) }
+    {
+        let texts = Texts::new(alloc, hash_key)?;
+        Ok(Machine {
+            alloc,
+            registers: FIRST,
+            comparison: None,
+            tuple: Tuple::new(),
+            texts,
+            numbers: [None; 5],
+        })
+    }
+
+    /// Turns to another firing, of whose texts nothing is known.
+    ///
+    /// ```text
+    /// machine.turn();
+    /// object.run_on(&firing, &mut machine, &mut memory)?;
+    /// ```
+    #[inline(always)]
+    pub fn turn(&mut self)
+        ensures texts { self.new.texts ≡ self.old.texts }
+        ensures frame { self.new.frame ≡ self.old.frame }
+        ensures known { self.new.known ≡ knows_nothing }
+    {
+        self.numbers = [None; 5];
+    }
+
+    /// Before the first instruction, whatever an earlier run left.
+    #[inline(always)]
+    pub(crate) fn restart(&mut self)
+        ensures texts { self.new.texts ≡ self.old.texts }
+        ensures frame { self.new.frame ≡ start }
+        ensures known { self.new.known ≡ self.old.known }
+    {
+        self.registers = FIRST;
+        self.comparison = None;
+        self.tuple.clear();
+    }
+
+    /// The word that a register holds.
+    #[inline(always)]
+    pub(crate) fn word(&self, a: Reg) -> Word
+        requires { at self.now.frame.registers a ≢ None }
+        ensures is { at self.now.frame.registers a ≡ Some (value_of self.now.texts result) }
+        ensures within { IsWithin self.now.texts result }
+    {
+        match self.registers[a.number()] {
+            Content::Unset => unreachable!(),
+            Content::Int(n) => Word::Int(n),
+            Content::Text(number) => Word::Text(number),
+        }
+    }
+
+    /// The integer that a register holds.
+    #[inline(always)]
+    pub(crate) fn number(&self, a: Reg) -> u64
+        requires set { at self.now.frame.registers a ≢ None }
+        requires number { (bytes : List ℕ) → at self.now.frame.registers a
+            ≢ Some (Value.Text bytes) }
+        ensures { at self.now.frame.registers a ≡ Some (Value.Int result) }
+    {
+        match self.word(a) {
+            Word::Int(n) => n,
+            Word::Text(_) => unreachable!(),
+        }
+    }
+
+    /// The bytes of the text that a register holds.
+    pub(crate) fn text(&self, a: Reg) -> &[u8]
+        requires set { at self.now.frame.registers a ≢ None }
+        requires text { (n : ℕ) → at self.now.frame.registers a ≢ Some (Value.Int n) }
+        ensures { at self.now.frame.registers a ≡ Some (Value.Text result.now) }
+    {
+        match self.word(a) {
+            Word::Int(_) => unreachable!(),
+            Word::Text(number) => self.texts.text(number),
+        }
+    }
+
+    /// The value of a word.
+    ///
+    /// ```text
+    /// machine.value(Word::Int(5))?; // Value::Int(5)
+    /// ```
+    pub fn value(&self, word: Word) -> Result<Value, AllocError>
+        ensures { IfOk result (λ value. value ≡ value_of self.now.texts word) }
+    {
+        value_in(self.alloc, &self.texts, word)
+    }
+
+    /// The texts that have numbers.
+    #[inline(always)]
+    pub fn texts(&self) -> &Texts
+        ensures { result.now ≡ self.now.texts }
+    {
+        &self.texts
+    }
+
+    /// Puts a word into a register.
+    #[inline(always)]
+    pub(crate) fn put(&mut self, d: Reg, word: Word)
+        requires { IsWithin self.old.texts word }
+        ensures texts { self.new.texts ≡ self.old.texts }
+        ensures frame { self.new.frame
+            ≡ with_register self.old.frame d (Some (value_of self.old.texts word)) }
+        ensures known { self.new.known ≡ self.old.known }
+    {
+        if d == Reg::R0 {
+            return;
+        }
+        self.registers[d.number()] = content(word);
+    }
+
+    /// Keeps a comparison.
+    #[inline(always)]
+    pub(crate) fn compare(&mut self, comparison: Comparison)
+        ensures texts { self.new.texts ≡ self.old.texts }
+        ensures frame { self.new.frame ≡ with_known self.old.frame comparison }
+        ensures known { self.new.known ≡ self.old.known }
+    {
+        self.comparison = Some(comparison);
+    }
+
+    /// How the two values compare that were compared last.
+    #[inline(always)]
+    pub(crate) fn compared(&self) -> Comparison
+        requires { self.now.frame.comparison ≢ None }
+        ensures { self.now.frame.comparison ≡ Some result }
+    {
+        match self.comparison {
+            Some(known) => known,
+            None => unreachable!(),
+        }
+    }
+
+    /// Adds a word to the tuple.
+    #[inline(always)]
+    pub(crate) fn push(&mut self, word: Word)
+        requires room { length self.old.frame.tuple < 8 }
+        requires within { IsWithin self.old.texts word }
+        ensures texts { self.new.texts ≡ self.old.texts }
+        ensures frame { self.new.frame ≡ with_parts self.old.frame
+            (self.old.frame.tuple ++ part_of (value_of self.old.texts word) ∷ []) }
+        ensures known { self.new.known ≡ self.old.known }
+    {
+        self.tuple.push(word);
+    }
+
+    /// Empties the tuple.
+    #[inline(always)]
+    pub(crate) fn flush(&mut self)
+        ensures texts { self.new.texts ≡ self.old.texts }
+        ensures frame { self.new.frame ≡ with_parts self.old.frame [] }
+        ensures known { self.new.known ≡ self.old.known }
+    {
+        self.tuple.clear();
+    }
+
+    /// Puts what a function makes of the tuple into a register.
+    #[inline(never)]
+    pub(crate) fn call(&mut self, function: Function, d: Reg) -> Result<(), AllocError>
+        requires { call_of function self.old.frame.tuple ≢ None }
+        ensures kept { Keeps self.old.texts self.new.texts }
+        ensures frame { OnOk result ((value : Value)
+            → call_of function self.old.frame.tuple ≡ Some value
+            → self.new.frame ≡ with_register self.old.frame d (Some value)) }
+        ensures known { self.new.known ≡ self.old.known }
+    {
+        let word = call(self.alloc, &mut self.texts, function, self.tuple.words())?;
+        self.put(d, word);
+        Ok(())
+    }
+
+    /// Puts a text into a register.
+    #[inline(never)]
+    pub(crate) fn load_text(&mut self, bytes: &[u8], d: Reg) -> Result<(), AllocError>
+        ensures kept { Keeps self.old.texts self.new.texts }
+        ensures frame { OnOk result
+            (self.new.frame ≡ with_register self.old.frame d (Some (Value.Text bytes.now))) }
+        ensures known { self.new.known ≡ self.old.known }
+    {
+        let number = self.texts.number(bytes)?;
+        self.put(d, Word::Text(number));
+        Ok(())
+    }
+
+    /// Puts a built-in variable into a register.
+    #[inline(always)]
+    pub(crate) fn load_built_in(&mut self, firing: &Firing, v: u8, d: Reg) -> Result<(), AllocError>
+        requires there { built_in_of firing.now v ≢ None }
+        requires known { Knows firing.now self.old.known }
+        ensures kept { Keeps self.old.texts self.new.texts }
+        ensures frame { OnOk result ((value : Value) → built_in_of firing.now v ≡ Some value
+            → self.new.frame ≡ with_register self.old.frame d (Some value)) }
+        ensures known { Knows firing.now self.new.known }
+    {
+        let word = self.built_in(firing, v)?;
+        self.put(d, word);
+        Ok(())
+    }
+
+    /// The word of a built-in variable.
+    #[inline(always)]
+    pub(crate) fn built_in(&mut self, firing: &Firing, v: u8) -> Result<Word, AllocError>
+        requires there { built_in_of firing.now v ≢ None }
+        requires known { Knows firing.now self.old.known }
+        ensures kept { Keeps self.old.texts self.new.texts }
+        ensures frame { self.new.frame ≡ self.old.frame }
+        ensures known { Knows firing.now self.new.known }
+        ensures word { IfOk result (λ word. (value : Value)
+            → built_in_of firing.now v ≡ Some value → IsWordOf self.new.texts word value) }
+    {
+        built_in(&mut self.texts, &mut self.numbers, firing, v)
+    }
+
+    /// The word of what a variable of the clause holds.
+    #[inline(always)]
+    pub(crate) fn local<M: Memory>(&mut self, memory: &mut M, x: Var) -> Result<Word, AllocError>
+        requires { M.is_over memory.old self.old.texts }
+        ensures kept { Keeps self.old.texts self.new.texts }
+        ensures frame { self.new.frame ≡ self.old.frame }
+        ensures known { self.new.known ≡ self.old.known }
+        ensures over { M.is_over memory.new self.new.texts }
+        ensures same { M.holds memory.new self.new.texts ≡ M.holds memory.old self.old.texts }
+        ensures beside { M.beside memory.new ≡ M.beside memory.old }
+        ensures word { IfOk result (λ word. IsWordOf self.new.texts word
+            (local_in (M.holds memory.old self.old.texts) x)) }
+    {
+        memory.load_local(&mut self.texts, x)
+    }
+
+    /// The word of what a variable of the thread holds without a key.
+    #[inline(always)]
+    pub(crate) fn scalar<M: Memory>(&mut self, memory: &mut M, x: Var) -> Result<Word, AllocError>
+        requires { M.is_over memory.old self.old.texts }
+        ensures kept { Keeps self.old.texts self.new.texts }
+        ensures frame { self.new.frame ≡ self.old.frame }
+        ensures known { self.new.known ≡ self.old.known }
+        ensures over { M.is_over memory.new self.new.texts }
+        ensures same { M.holds memory.new self.new.texts ≡ M.holds memory.old self.old.texts }
+        ensures beside { M.beside memory.new ≡ M.beside memory.old }
+        ensures word { IfOk result (λ word. IsWordOf self.new.texts word
+            (own_value (M.holds memory.old self.old.texts) x [])) }
+    {
+        memory.load_own(&mut self.texts, x, &Tuple::new())
+    }
+
+    /// The word of what a variable of the thread holds at the tuple.
+    #[inline(never)]
+    pub(crate) fn element<M: Memory>(&mut self, memory: &mut M, x: Var) -> Result<Word, AllocError>
+        requires { M.is_over memory.old self.old.texts }
+        ensures kept { Keeps self.old.texts self.new.texts }
+        ensures frame { self.new.frame ≡ self.old.frame }
+        ensures known { self.new.known ≡ self.old.known }
+        ensures over { M.is_over memory.new self.new.texts }
+        ensures same { M.holds memory.new self.new.texts ≡ M.holds memory.old self.old.texts }
+        ensures beside { M.beside memory.new ≡ M.beside memory.old }
+        ensures word { IfOk result (λ word. IsWordOf self.new.texts word
+            (own_value (M.holds memory.old self.old.texts) x self.old.frame.tuple)) }
+    {
+        memory.load_own(&mut self.texts, x, &self.tuple)
+    }
+
+    /// Stores a word in a variable of the clause.
+    #[inline(always)]
+    pub(crate) fn store_local<M: Memory>(
+        &self,
+        memory: &mut M,
+        x: Var,
+        word: Word,
+    ) -> Result<(), AllocError>
+        requires over { M.is_over memory.old self.now.texts }
+        requires within { IsWithin self.now.texts word }
+        requires kind { kind_of (value_of self.now.texts word) ≡ x.kind }
+        ensures over { M.is_over memory.new self.now.texts }
+        ensures beside { M.beside memory.new ≡ M.beside memory.old }
+        ensures ok { OnOk result (M.holds memory.new self.now.texts
+            ≡ set_local (M.holds memory.old self.now.texts) x (value_of self.now.texts word)) }
+        ensures err { OnErr result (M.holds memory.new self.now.texts
+            ≡ M.holds memory.old self.now.texts) }
+    {
+        memory.store_local(&self.texts, x, word)
+    }
+
+    /// Stores a word in a variable of the thread, without a key.
+    #[inline(always)]
+    pub(crate) fn store_scalar<M: Memory>(
+        &self,
+        memory: &mut M,
+        x: Var,
+        word: Word,
+    ) -> Result<(), AllocError>
+        requires over { M.is_over memory.old self.now.texts }
+        requires within { IsWithin self.now.texts word }
+        requires kind { kind_of (value_of self.now.texts word) ≡ x.kind }
+        ensures over { M.is_over memory.new self.now.texts }
+        ensures beside { M.beside memory.new ≡ M.beside memory.old }
+        ensures ok { OnOk result (M.holds memory.new self.now.texts
+            ≡ set_own (M.holds memory.old self.now.texts) x [] (value_of self.now.texts word)) }
+        ensures err { OnErr result (M.holds memory.new self.now.texts
+            ≡ M.holds memory.old self.now.texts) }
+    {
+        memory.store_own(&self.texts, x, &Tuple::new(), word)
+    }
+
+    /// Stores a word in a variable of the thread, at the tuple.
+    #[inline(never)]
+    pub(crate) fn store_element<M: Memory>(
+        &self,
+        memory: &mut M,
+        x: Var,
+        word: Word,
+    ) -> Result<(), AllocError>
+        requires over { M.is_over memory.old self.now.texts }
+        requires within { IsWithin self.now.texts word }
+        requires kind { kind_of (value_of self.now.texts word) ≡ x.kind }
+        ensures over { M.is_over memory.new self.now.texts }
+        ensures beside { M.beside memory.new ≡ M.beside memory.old }
+        ensures ok { OnOk result (M.holds memory.new self.now.texts
+            ≡ set_own (M.holds memory.old self.now.texts) x self.now.frame.tuple
+            (value_of self.now.texts word)) }
+        ensures err { OnErr result (M.holds memory.new self.now.texts
+            ≡ M.holds memory.old self.now.texts) }
+    {
+        memory.store_own(&self.texts, x, &self.tuple, word)
+    }
+}
+
+// The word of what a function makes of a tuple.
+fn call(
+    alloc: Global,
+    texts: &mut Texts,
+    function: Function,
+    tuple: &[Word],
+) -> Result<Word, AllocError>
+    requires { call_of function (key_in texts.old tuple.now) ≢ None }
+    ensures kept { Keeps texts.old texts.new }
+    ensures word { IfOk result (λ word. (value : Value)
+        → call_of function (key_in texts.old tuple.now) ≡ Some value
+        → IsWordOf texts.new word value) }
+{
+    match function {
+        Function::Strlen => match tuple {
+            [Word::Text(number)] => Ok(Word::Int(texts.text(*number).len() as u64)),
+            _ => unreachable!(),
+        },
+        Function::Strjoin => match tuple {
+            [Word::Text(a), Word::Text(b)] => join(alloc, texts, *a, *b),
+            _ => unreachable!(),
+        },
+    }
+}
+
+// The word of two texts, joined.
+fn join(alloc: Global, texts: &mut Texts, a: u64, b: u64) -> Result<Word, AllocError>
+    ensures kept { Keeps texts.old texts.new }
+    ensures word { IfOk result (λ word. IsWordOf texts.new word
+        (Value.Text (joined_text (text_at texts.old a) (text_at texts.old b)))) }
+{
+    let joined = join_text(alloc, texts.text(a), texts.text(b))?;
+    let number = texts.number(joined.as_bytes())?;
+    Ok(Word::Text(number))
+}
+
+// A word, as a register holds it.
+#[inline(always)]
+fn content(word: Word) -> Content
+    ensures value { (texts : List (List ℕ))
+        → content_of texts result ≡ Some (value_of texts word) }
+    ensures within { (texts : List (List ℕ))
+        → IsWithin texts word → IsContentWithin texts result }
+{
+    match word {
+        Word::Int(n) => Content::Int(n),
+        Word::Text(number) => Content::Text(number),
+    }
+}

@@ -1,0 +1,9 @@
+use Rattle.std.proofs.Common.{ap}
+use Rattle.numbered.specs.Tables.{key_of, word_in}
+use Rattle.numbered.proofs.Indices.{words_set}
+use Rattle.numbered.proofs.word_table.WordTable.set.Goals as goal
+
+pub returns-in-Some-clause-ok : goal.returns-in-Some-clause-ok
+returns-in-Some-clause-ok c =
+    let key = key_of c.args.first c.args.second c.args.words.now in
+    words_set c.args.self.now _ _ key c.args.word (ap word_in c.self.view_is) (c.put.ensures key c.in-Some.ensures).0

@@ -1,0 +1,5 @@
+pub mod Words
+pub mod Texts
+pub mod Tables
+pub mod Shapes
+pub mod Steps

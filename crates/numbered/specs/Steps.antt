@@ -1,0 +1,2 @@
+-- What private functions alone say of their steps.
+pub mod Indices

@@ -1,0 +1,141 @@
+//! Texts, each with a number.
+
+ghost use Rattle.std.specs.Prelude.{◌≡◌, [], ◌∷◌, IfOk, OnErr};
+ghost use Rattle.d_values.specs.Stores.{lent_value};
+ghost use Rattle.numbered.specs.Texts.{AreDistinct, IsNumberOf, Keeps, text_at};
+ghost use Rattle.numbered.specs.Words.{value_of};
+
+use crate::index_cache::IndexCache;
+use crate::word::Word;
+use d_values::{Text, ValueRef};
+use indexmap::IndexSet;
+use keyed_hash::{HashKey, is_same, word_at};
+use std::alloc::{AllocError, Global};
+use std::hash::{BuildHasher, Hasher};
+use std::marker::Model;
+
+/// Texts in the order in which they were first met, each once. A text's number is its index, and
+/// that of the empty text is 0.
+#[derive(Drop)]
+pub struct Texts {
+    alloc: Global,
+    texts: IndexSet<Text, HashKey>,
+    cache: IndexCache,
+    secret: u64,
+}
+
+const MULTIPLIER: u64 = 0x9e37_79b9_7f4a_7c15;
+
+impl Model for Texts {
+    ghost use Rattle.std.specs.Prelude.{List, ℕ};
+    ghost use Rattle.numbered.specs.Texts.{AreDistinct};
+
+    ghost Value = { List (List ℕ) };
+
+    ghost view = { λ t. t.texts.keys };
+
+    ghost invariant = { λ t. AreDistinct t.texts.keys };
+}
+
+impl Texts {
+    /// The empty text alone. Err if memory was refused.
+    ///
+    /// ```text
+    /// let mut texts = Texts::new(alloc, HashKey::random(&rt))?;
+    /// texts.number(b"")?; // 0
+    /// texts.number(b"cat")?; // 1
+    /// ```
+    pub fn new(alloc: Global, hash_key: HashKey) -> Result<Texts, AllocError>
+        ensures texts { IfOk result (λ texts. texts ≡ [] ∷ []) }
+        ensures distinct { IfOk result AreDistinct }
+    {
+        let mut texts = Texts {
+            alloc,
+            texts: IndexSet::with_hasher(alloc, hash_key),
+            cache: IndexCache::new(alloc),
+            secret: hash_key.build_hasher().finish(),
+        };
+        texts.texts.insert(Text::new(alloc))?;
+        Ok(texts)
+    }
+
+    /// The number of these bytes, which get one if they have none.
+    ///
+    /// ```text
+    /// texts.number(b"cat")?; // 1, if no other text was met but the empty one
+    /// ```
+    pub fn number(&mut self, bytes: &[u8]) -> Result<u64, AllocError>
+        ensures number { IfOk result (λ n. IsNumberOf self.new n bytes.now) }
+        ensures kept { Keeps self.old self.new }
+        ensures distinct { AreDistinct self.new }
+        ensures err { OnErr result (self.new ≡ self.old) }
+    {
+        let hash = hash(self.secret, bytes);
+        let index = self.cache.get(hash);
+        if let Some(text) = self.texts.get_index(index) {
+            if is_same(text.as_bytes(), bytes) {
+                return Ok(index as u64);
+            }
+        }
+        self.number_by_hash(bytes, hash)
+    }
+
+    // The same if the cache doesn't have it.
+    #[inline(never)]
+    fn number_by_hash(&mut self, bytes: &[u8], hash: u64) -> Result<u64, AllocError>
+        ensures number { IfOk result (λ n. IsNumberOf self.new n bytes.now) }
+        ensures kept { Keeps self.old self.new }
+        ensures distinct { AreDistinct self.new }
+        ensures err { OnErr result (self.new ≡ self.old) }
+    {
+        let text = Text::from_slice(self.alloc, bytes)?;
+        let (index, _) = self.texts.insert_full(text)?;
+        self.cache.put(hash, index);
+        Ok(index as u64)
+    }
+
+    /// The text of a number: the empty one if no text has it.
+    ///
+    /// ```text
+    /// texts.text(1); // b"cat"
+    /// ```
+    pub fn text(&self, number: u64) -> &[u8]
+        ensures { result.now ≡ text_at self.now number }
+    {
+        match self.texts.get_index(number as usize) {
+            Some(text) => text.as_bytes(),
+            None => &[],
+        }
+    }
+
+    /// The value of a word, lent.
+    ///
+    /// ```text
+    /// texts.lent(Word::Text(1)); // ValueRef::Text(b"cat")
+    /// ```
+    #[inline(always)]
+    pub fn lent(&self, word: Word) -> ValueRef<'_>
+        ensures { lent_value result ≡ value_of self.now word }
+    {
+        match word {
+            Word::Int(n) => ValueRef::Int(n),
+            Word::Text(number) => ValueRef::Text(self.text(number)),
+        }
+    }
+}
+
+// A hash of the first bytes and the last ones.
+#[inline(always)]
+fn hash(secret: u64, bytes: &[u8]) -> u64 {
+    let len = bytes.len();
+    let mut hash = secret ^ len as u64;
+    if len >= 8 {
+        hash = (hash ^ word_at(bytes, 0)).wrapping_mul(MULTIPLIER);
+        hash = (hash ^ word_at(bytes, len - 8)).wrapping_mul(MULTIPLIER);
+    } else {
+        for byte in bytes {
+            hash = (hash ^ u64::from(*byte)).wrapping_mul(MULTIPLIER);
+        }
+    }
+    hash >> 32
+}

@@ -1,0 +1,32 @@
+use Rattle.std.specs.Prelude.{◌≡◌, FitsSigned}
+use Rattle.std.specs.Int.{w64}
+use Rattle.std.proofs.Common.{rules, subst}
+use Rattle.std.proofs.lemmas.Int.{to_z-of_z}
+use Rattle.d_types.specs.declared.effect.Effect.TheVariants as ef
+use Rattle.d_types.specs.Clauses.{argument_by}
+use Rattle.d_types.specs.Expressions.{Has}
+use Rattle.replay_core.specs.Steps.Effects.{NotesEffect}
+use Rattle.replay_core.specs.Evaluation.{variables_in}
+use Rattle.replay_core.specs.Forms.{by_expressions}
+use Rattle.replay_core.specs.Threads.{tables_seen}
+use Rattle.replay_core.specs.Seen.{piece_seen}
+use Rattle.replay_core.proofs.EffectLemmas.{adds}
+use Rattle.replay_core.proofs.StateLemmas.{stays_then}
+use Rattle.replay_core.proofs.statements.trees.aggregate.Goals as goal
+
+pub returns-clause-effect : goal.returns-clause-effect
+returns-clause-effect c =
+    let f = c.args.state.now.firing.now in
+    let by = by_expressions f in
+    let vars = variables_in tables_seen c.args.state.now in
+    let between = variables_in tables_seen c.evaluate_key.new.state in
+    let after = variables_in tables_seen c.evaluate_argument.new.state in
+    let fits : FitsSigned w64 c.in_ok-number.number = search rules in
+    let noted = subst (λ y. NotesEffect f.number (ef.Adds c.args.index c.in_ok-key.key y) (piece_seen c.args.piece.now) (piece_seen c.note_contribution.new.self))
+    (to_z-of_z w64 c.in_ok-number.number fits) (c.in_ok-note_contribution.ensures.notes f.number) in
+    let given : argument_by by c.args.argument.now between ≡ Has c.in_ok-number.number after =
+    subst (λ s. argument_by (by_expressions s.now) c.args.argument.now between ≡ Has c.in_ok-number.number after) c.in_ok-key.ensures.0.firing c.in_ok-number.ensures.1 in (
+      stays_then tables_seen c.args.state.now c.evaluate_key.new.state c.evaluate_argument.new.state c.in_ok-key.ensures.0 c.in_ok-number.ensures.0,
+      adds f.number c.args.index (by.key c.args.keys.now vars) (argument_by by c.args.argument.now) c.in_ok-key.key c.in_ok-number.number
+          (piece_seen c.args.piece.now) (piece_seen c.note_contribution.new.self) between after c.in_ok-key.ensures.1 given noted,
+    )
