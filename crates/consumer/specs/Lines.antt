@@ -1,9 +1,9 @@
 -- The program's line on standard error: a reason, and where the fault is.
 use Rattle.std.specs.Prelude.{ℕ, ℤ, List, [], ◌++◌, codes}
 use Rattle.std.specs.Fmt.{decimal, signed_decimal}
-use Rattle.consumer.specs.declared.line.Place.{Place}
-use Rattle.consumer.specs.declared.line.Place.TheVariants.{Nowhere, Line, Row, Field, Thread}
-use Rattle.consumer.specs.declared.line.Reason.{Reason}
+use Rattle.consumer.specs.declared.reason.Place.{Place}
+use Rattle.consumer.specs.declared.reason.Place.TheVariants.{Nowhere, Line, Row, Field, Thread}
+use Rattle.consumer.specs.declared.reason.Reason.{Reason}
 
 abbrev pub line_part : ℕ → List ℕ
 line_part line = codes " line " ++ decimal line

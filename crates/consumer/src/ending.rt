@@ -1,13 +1,14 @@
 //! How the program ends: what it says on standard error, and its status.
 
-ghost use Rattle.std.specs.Prelude.{◌≡◌, ◌∷◌, ◌++◌, ◌≤◌, [], Err, IsFalse, length};
+ghost use Rattle.std.specs.Prelude.{◌≡◌, ◌∷◌, ◌++◌, [], Err, IsFalse};
 ghost use Rattle.streams.specs.Stream.{IsSent};
 ghost use Rattle.consumer.specs.{Lines.reason_bytes};
 ghost use Rattle.consumer.specs.Refusals.{IsReported, consume_fault_line, status_at_end};
 
 use crate::consuming::ConsumeFault;
-use crate::line::{MAX_REASON, Place, Reason, reason_line};
+use crate::line::reason_line;
 use crate::plan::Replayed;
+use crate::reason::{Place, Reason};
 use crate::refusal::{refusal_reason, refusal_status};
 use streams::{Sink, send};
 
@@ -57,8 +58,7 @@ fn tell<E: Sink>(errors: &mut E, fault: &ConsumeFault)
 
 // The text and the place in the line of a fault.
 fn fault_reason(fault: &ConsumeFault) -> Reason
-    ensures bytes { reason_bytes result ≡ consume_fault_line fault.now }
-    ensures short { length result.text.now ≤ MAX_REASON }
+    ensures { reason_bytes result ≡ consume_fault_line fault.now }
 {
     let text = match fault {
         ConsumeFault::Read => "dreplay: read failed",

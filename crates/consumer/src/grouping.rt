@@ -1,10 +1,9 @@
 //! The groups of a plan.
 
-ghost use Rattle.std.specs.Prelude.{◌≡◌, ◌≤◌, ◌+◌, ◌⊎◌, IfErr, IfOk};
+ghost use Rattle.std.specs.Prelude.{◌≡◌, ◌⊎◌, IfErr, IfOk};
 ghost use Rattle.shard_queue.specs.{Threads.run_threads};
 ghost use Rattle.shard_queue.specs.{declared.fault.GroupFault.TheVariants.Memory};
 ghost use Rattle.shard_queue.specs.Groups.{AreOf, grouping};
-ghost use Rattle.consumer.specs.{Vocabulary.MAX_GROUPS};
 ghost use Rattle.consumer.specs.Plans.{AreInBounds, IsGroupedBy, IsMisgrouped};
 
 use crate::plan::GroupPlan;
@@ -23,7 +22,6 @@ pub fn groups_of(alloc: Global, plan: &GroupPlan, trace: &Trace) -> Result<Group
     requires { AreInBounds plan.now }
     ensures grouped { IfOk result (λ g. IsGroupedBy plan.now trace.now (grouping g)) }
     ensures of { IfOk result (λ g. AreOf g (run_threads trace.now)) }
-    ensures few { IfOk result (λ g. (grouping g).count ≤ MAX_GROUPS + 1) }
     ensures fault { IfErr result (λ e. (e ≡ Memory) ⊎ IsMisgrouped plan.now trace.now e) }
 {
     match plan {

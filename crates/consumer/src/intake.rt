@@ -151,7 +151,8 @@ impl<'a, R: Threads + Sync> TraceIntake<'a, R> {
         Err(ReadFault::Failed)
     }
 
-    // Takes the next bytes of a feed, and returns whether it has ended.
+    // Takes the next bytes of a feed, and returns whether it has ended. If several workers read, a
+    // new thread takes the bytes, while this one and others read the rows that have come.
     fn take_from<F: Feed + Send>(
         &mut self,
         feed: &mut F,
@@ -164,26 +165,9 @@ impl<'a, R: Threads + Sync> TraceIntake<'a, R> {
             TakesTrace old.script new.script old.trace new.trace block)
             (F.seen feed.old).remaining (F.seen feed.new).remaining self.old self.new result }
     {
-        if self.is_shared && self.script.is_ok() {
-            return self.take_beside(feed, reading);
+        if !self.is_shared || self.script.is_err() {
+            return take_next(self, feed, reading);
         }
-        take_next(self, feed, reading)
-    }
-
-    // Takes the next bytes of a feed in a new thread, while this one and others read the rows that
-    // have come.
-    fn take_beside<F: Feed + Send>(
-        &mut self,
-        feed: &mut F,
-        reading: &mut Reading,
-    ) -> Result<bool, ReadFault>
-        requires { GoesOn reading.old.calls_left (F.seen feed.old) }
-        ensures turn { IsTurn (F.seen feed.old) (F.seen feed.new)
-            reading.old.calls_left reading.new.calls_left result }
-        ensures taken { TakesSome (λ old block new.
-            TakesTrace old.script new.script old.trace new.trace block)
-            (F.seen feed.old).remaining (F.seen feed.new).remaining self.old self.new result }
-    {
         refused(self.trace.take_out_row(&mut self.block))?;
         let (given, read) = read_beside(self.rt, &mut self.trace, feed, reading, &mut self.block);
         let ended = given?;

@@ -13,6 +13,7 @@ pub mod laws;
 mod line;
 mod plan;
 mod program;
+mod reason;
 mod refusal;
 mod replaying;
 mod scripts;

@@ -4,33 +4,9 @@ ghost use Rattle.std.specs.Prelude.{◌≡◌, ◌+◌, ◌++◌, ◌<◌, ◌�
 ghost use Rattle.arrayvec.specs.ArrayString.{array_string_len};
 ghost use Rattle.consumer.specs.Lines.{place_bytes, reason_bytes};
 
+use crate::reason::{MAX_REASON, Place, Reason};
 use arrayvec::ArrayString;
 use itoa::{Buffer, Integer};
-
-/// Where a fault is.
-#[derive(Clone, Copy)]
-pub enum Place {
-    /// No place is reported.
-    Nowhere,
-    /// On this line of the script.
-    Line(usize),
-    /// In this row of the trace.
-    Row(u32),
-    /// In a field of the trace.
-    Field { row: u32, column: u32 },
-    /// At a thread of the plan's lists.
-    Thread(i32),
-}
-
-/// Why there is no answer, and where.
-#[derive(Clone, Copy)]
-pub struct Reason {
-    pub text: &'static str,
-    pub place: Place,
-}
-
-/// The most bytes of a reason's text.
-pub const MAX_REASON: usize = 40;
 
 /// Room for a text and two numbers with their labels.
 pub const ROOM: usize = 160;
@@ -46,7 +22,6 @@ pub type Line = ArrayString<ROOM>;
 /// reason_line(Reason { text, place }).as_str(); // `dreplay: trace refused: Trace 4 row 9`
 /// ```
 pub fn reason_line(reason: Reason) -> Line
-    requires { length reason.text.now ≤ MAX_REASON }
     ensures bytes { result.bytes ≡ reason_bytes reason }
     ensures room { array_string_len result < ROOM }
 {

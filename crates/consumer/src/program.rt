@@ -1,6 +1,6 @@
 //! What the program does with its words, its files and its streams.
 
-ghost use Rattle.std.specs.Prelude.{◌≡◌, IfOk, IsFalse, MatchResult, Some};
+ghost use Rattle.std.specs.Prelude.{◌≡◌, IfOk, IsFalse, MatchResult};
 ghost use Rattle.consumer.specs.{Plans.IsInBounds};
 ghost use Rattle.consumer.specs.Program.{AreUnfailed, Ends, EndsWithoutRun, IsNoRequest, IsRequest};
 ghost use Rattle.consumer.specs.Program.{IsRunOf, streams_seen};
@@ -104,7 +104,7 @@ impl<'a, R: Threads + Wait + Sync, L: Layout> Consumer<'a, R, L> {
         status
     }
 
-    // Runs what was asked for, over the input and into the output.
+    // Runs what was asked for, a bundle or a script of a file, from the input into the output.
     fn run_request<C: ScriptFiles, F: Feed + Send, S: Sink, E: Sink>(
         &self,
         files: &C,
@@ -118,28 +118,9 @@ impl<'a, R: Threads + Wait + Sync, L: Layout> Consumer<'a, R, L> {
             (streams_seen F.seen S.seen E.seen streams.new) result }
         ensures errors { streams.new.errors ≡ streams.old.errors }
     {
-        match &request.file {
-            None => self.consume(&mut streams.input, &mut streams.output, &request.plan),
-            Some(file) => self.run_file(files, file, request, streams),
-        }
-    }
-
-    // Runs the script of the file that was asked for, over the input and into the output.
-    fn run_file<C: ScriptFiles, F: Feed + Send, S: Sink, E: Sink>(
-        &self,
-        files: &C,
-        file: &String,
-        request: &Request,
-        streams: &mut Streams<F, S, E>,
-    ) -> Result<Replayed, ConsumeFault>
-        requires named { request.now.file ≡ Some file.now }
-        requires plan { IsInBounds request.now.plan }
-        requires unfailed { AreUnfailed (streams_seen F.seen S.seen E.seen streams.old) }
-        ensures run { IsRunOf L.shows request.now (C.bytes files.now)
-            (streams_seen F.seen S.seen E.seen streams.old)
-            (streams_seen F.seen S.seen E.seen streams.new) result }
-        ensures errors { streams.new.errors ≡ streams.old.errors }
-    {
+        let Some(file) = &request.file else {
+            return self.consume(&mut streams.input, &mut streams.output, &request.plan);
+        };
         match script_in(self.alloc, files, file.as_str()) {
             Ok(script) => {
                 let answer = self.consume_trace(

@@ -1,12 +1,13 @@
 //! Why a script or a trace is refused, and what the program says of it.
 
-ghost use Rattle.std.specs.Prelude.{◌≡◌, ◌≤◌, IfOk, length, string_bytes};
+ghost use Rattle.std.specs.Prelude.{◌≡◌, IfOk, string_bytes};
 ghost use Rattle.consumer.specs.declared.refusal.Refusal.TheVariants.{Group, Lex, Memory, Parse};
 ghost use Rattle.consumer.specs.declared.refusal.Refusal.TheVariants.{Trace, Typing};
 ghost use Rattle.consumer.specs.{Lines.reason_bytes};
 ghost use Rattle.consumer.specs.Refusals.{refusal_line, plain_refusal, status_of};
 
-use crate::line::{MAX_REASON, Place, Reason, reason_line};
+use crate::line::reason_line;
+use crate::reason::{Place, Reason};
 use d_lexer::LexFault;
 use d_parser::ParseFault;
 use d_types::TypeFault;
@@ -148,8 +149,7 @@ pub fn refusal_text(alloc: Global, refusal: &Refusal) -> Result<String, AllocErr
 
 /// The text and the place in that line.
 pub fn refusal_reason(refusal: &Refusal) -> Reason
-    ensures bytes { reason_bytes result ≡ refusal_line refusal.now }
-    ensures short { length result.text.now ≤ MAX_REASON }
+    ensures { reason_bytes result ≡ refusal_line refusal.now }
 {
     match refusal {
         Refusal::Lex(fault) => lex_reason(*fault),
@@ -167,8 +167,7 @@ const OUT_OF_MEMORY: Reason = Reason {
 };
 
 fn lex_reason(fault: LexFault) -> Reason
-    ensures bytes { reason_bytes result ≡ refusal_line (Refusal.Lex fault) }
-    ensures short { length result.text.now ≤ MAX_REASON }
+    ensures { reason_bytes result ≡ refusal_line (Refusal.Lex fault) }
 {
     let (text, place) = match fault {
         LexFault::TooLong => ("dreplay: script refused: Lex 1", Place::Nowhere),
@@ -183,8 +182,7 @@ fn lex_reason(fault: LexFault) -> Reason
 }
 
 fn parse_reason(fault: ParseFault) -> Reason
-    ensures bytes { reason_bytes result ≡ refusal_line (Refusal.Parse fault) }
-    ensures short { length result.text.now ≤ MAX_REASON }
+    ensures { reason_bytes result ≡ refusal_line (Refusal.Parse fault) }
 {
     let (text, place) = match fault {
         ParseFault::Syntax { line } => ("dreplay: script refused: Parse 1", Place::Line(line)),
@@ -196,8 +194,7 @@ fn parse_reason(fault: ParseFault) -> Reason
 }
 
 fn type_reason(fault: &TypeFault) -> Reason
-    ensures bytes { reason_bytes result ≡ refusal_line (Refusal.Typing fault.now) }
-    ensures short { length result.text.now ≤ MAX_REASON }
+    ensures { reason_bytes result ≡ refusal_line (Refusal.Typing fault.now) }
 {
     let (text, line) = match fault {
         TypeFault::GlobalAssignment { line, .. } => ("dreplay: script refused: Type 1", *line),
@@ -218,8 +215,7 @@ fn type_reason(fault: &TypeFault) -> Reason
 }
 
 fn trace_reason(fault: TraceFault) -> Reason
-    ensures bytes { reason_bytes result ≡ refusal_line (Refusal.Trace fault) }
-    ensures short { length result.text.now ≤ MAX_REASON }
+    ensures { reason_bytes result ≡ refusal_line (Refusal.Trace fault) }
 {
     let (text, place) = match fault {
         TraceFault::Header => ("dreplay: trace refused: Trace 1", Place::Nowhere),
@@ -245,8 +241,7 @@ fn trace_reason(fault: TraceFault) -> Reason
 }
 
 fn group_reason(fault: GroupFault) -> Reason
-    ensures bytes { reason_bytes result ≡ refusal_line (Refusal.Group fault) }
-    ensures short { length result.text.now ≤ MAX_REASON }
+    ensures { reason_bytes result ≡ refusal_line (Refusal.Group fault) }
 {
     let (text, place) = match fault {
         GroupFault::Missing { thread } => {

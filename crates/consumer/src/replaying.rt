@@ -1,13 +1,12 @@
 //! The answer of a script over a trace.
 
-ghost use Rattle.std.specs.Prelude.{◌≡◌, ◌≤◌, ◌+◌, ℕ, IfErr, IfOk, List, unwrap_or};
-ghost use Rattle.std.specs.Prelude.{option_map};
+ghost use Rattle.std.specs.Prelude.{◌≡◌, ℕ, IfErr, IfOk, List, option_map, unwrap_or};
 ghost use Rattle.firing_reader.specs.{Gives.Gives};
 ghost use Rattle.shard_queue.specs.{Groups.AreOf, Groups.grouping, Threads.run_threads};
 ghost use Rattle.replay_core.specs.Exit.{firings_over};
 ghost use Rattle.consumer.specs.{Answer.IsShown, Scripts.IsAccepted};
 ghost use Rattle.consumer.specs.Vocabulary.{Firing, Grouping, Plan, ScriptMeant, functions_in};
-ghost use Rattle.consumer.specs.Vocabulary.{MAX_GROUPS, functions_of, trace_of, typed_script_of};
+ghost use Rattle.consumer.specs.Vocabulary.{functions_of, trace_of, typed_script_of};
 ghost use Rattle.consumer.specs.Plans.{IsGroupedBy, IsInBounds};
 ghost use Rattle.consumer.specs.Replaying.{IsAnswered, IsCarriedOut, IsRefusalUnder, IsReplay};
 ghost use Rattle.consumer.specs.Replaying.{IsRunUnder, output_of};
@@ -126,7 +125,6 @@ impl<'a, R: Threads + Wait + Sync, L: Layout> Consumer<'a, R, L> {
     ) -> Result<Replayed, AllocError>
         requires plan { IsInBounds plan.now }
         requires groups { AreOf groups.now (run_threads trace.now) }
-        requires few { (grouping groups.now).count ≤ MAX_GROUPS + 1 }
         ensures { let m = typed_script_of script.now in
             IsGroupedBy plan.now.groups trace.now (grouping groups.now)
             → IfOk result (λ r. IsShown L.shows m trace.now (output_of r)
@@ -147,7 +145,6 @@ impl<'a, R: Threads + Wait + Sync, L: Layout> Consumer<'a, R, L> {
     ) -> Result<Ran, AllocError>
         requires plan { IsInBounds plan.now }
         requires groups { AreOf groups.now (run_threads trace.now) }
-        requires few { (grouping groups.now).count ≤ MAX_GROUPS + 1 }
         ensures { IfOk result (IsRunBy (typed_script_of script.now) trace.now
             (grouping groups.now) plan.now.workers) }
     {
@@ -177,7 +174,6 @@ impl<'a, R: Threads + Wait + Sync, L: Layout> Consumer<'a, R, L> {
     ) -> Result<Ran, AllocError>
         requires plan { IsInBounds plan.now }
         requires groups { AreOf groups.now (run_threads trace.now) }
-        requires few { (grouping groups.now).count ≤ MAX_GROUPS + 1 }
         requires script { (m : ScriptMeant) × K.runs lanes.now m }
         ensures { (m : ScriptMeant) → K.runs lanes.now m
             → IfOk result (IsRunBy m trace.now

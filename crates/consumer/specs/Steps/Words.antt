@@ -1,9 +1,14 @@
 -- The faults of words, as clap reports them.
-use Rattle.std.specs.Prelude.{◌≡◌, ◌≢◌, List}
-use Rattle.clap.specs.Words.{Row, kind_of}
+use Rattle.std.specs.Prelude.{◌≡◌, ◌≢◌, List, false}
+use Rattle.clap.specs.Words.{Row, Rule, kind_of, rule_of}
+use Rattle.clap.specs.declared.builder.arg.Arg.{Arg}
 use Rattle.consumer.specs.Vocabulary.{Error, DisplayHelp, OutOfMemory, UsageFault, Plan}
 use Rattle.consumer.specs.declared.words.UsageFault.TheVariants.{Help, Usage, Memory}
 use Rattle.consumer.specs.Words.{IsPlanIn}
+
+-- an option with this rule, of the program and not of commands below it
+abbrev pub IsOption : Rule → Arg → Type 0
+IsOption rule arg = (rule_of arg ≡ rule) × (arg.global ≡ false)
 
 -- one of the options has no such value
 abbrev pub IsPlanFault : List Row → UsageFault → Type 0

@@ -1,7 +1,7 @@
 use Rattle.std.proofs.Common.{◌≡◌, ◌∙◌, ◌++◌, ◌∷◌, [], ap, refl}
 use Rattle.streams.specs.Intake.{TakesBlocks}
 use Rattle.consumer.proofs.Taken.{on_ok_any, trace_beside, was_given}
-use Rattle.consumer.proofs.intake.TraceIntake.take_beside.Goals as goal
+use Rattle.consumer.proofs.intake.TraceIntake.take_from.Goals as goal
 
 pub returns-clause-taken : goal.returns-clause-taken
 returns-clause-taken g c =
