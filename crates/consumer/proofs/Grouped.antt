@@ -19,7 +19,7 @@ use Rattle.shard_queue.specs.Threads.{has, items_of, thread_zero}
 use Rattle.shard_queue.proofs.Listed.{is_some-list_of}
 use Rattle.shard_queue.specs.declared.fault.GroupFault.{GroupFault}
 use Rattle.shard_queue.specs.declared.fault.GroupFault.TheVariants.{Missing}
-use Rattle.consumer.specs.Plans.{AreInBounds, IsGroupedBy, IsInBounds}
+use Rattle.consumer.specs.{Bounds.dealt, Plans.IsGroupedBy}
 use Rattle.consumer.specs.Vocabulary.{Dealt, Firing, GroupPlan, Grouping, Lists, Plan}
 
 -- a group of this number is there
@@ -95,13 +95,13 @@ all_listed listed (x ∷ ts) t none there = here (has listed x) refl none (int_e
 
 -- ---- a plan's groups
 
-threads_grouped : (p : GroupPlan) (trace : List Firing) (g : Grouping) → AreInBounds p → IsGroupedBy p trace g
+threads_grouped : (p : GroupPlan) (trace : List Firing) (g : Grouping) → 1 ≤ dealt p → IsGroupedBy p trace g
     → (t : ℤ) → Contains (map thread_of trace) t ⊎ (int_eq t thread_zero ≡ true) → IsGrouped g t
 threads_grouped (Dealt n) trace g bounds is t h =
     subst (λ (x : Grouping). IsGrouped x t) (sym is.2)
     (own_below n (λ u. option_map (λ i. i % n) (position_from (int_eq u) 0 is.0)) t
     (⊎_elim
-    (λ (c : Contains (map thread_of trace) t). inl (dealt_below n 0 t is.0 bounds.0 (has_of is.0 t ((is.1.same t).1 c))))
+    (λ (c : Contains (map thread_of trace) t). inl (dealt_below n 0 t is.0 bounds (has_of is.0 t ((is.1.same t).1 c))))
     (λ (own : int_eq t thread_zero ≡ true). inr own) h))
 threads_grouped (Lists lists) trace g bounds is t h =
     let all = all_of (items_of lists.items) in
@@ -125,10 +125,10 @@ before_all : (P : Firing → Type 0) (f : Firing) (fs : List Firing) → P f →
 before_all P f fs here all zero d lt = here
 before_all P f fs here all (suc k) d lt = all k d (omega arith)
 
-pub are_grouped : (plan : Plan) (trace : List Firing) (g : Grouping) → IsInBounds plan → IsGroupedBy plan.groups trace g → AreGrouped g (with_ends trace trace)
-are_grouped plan trace g bounds is =
+pub are_grouped : (plan : Plan) (trace : List Firing) (g : Grouping) → IsGroupedBy plan.groups trace g → AreGrouped g (with_ends trace trace)
+are_grouped plan trace g is =
     let P = λ (f : Firing). IsGrouped g f.thread in
-    let grouped = threads_grouped plan.groups trace g bounds.groups is in
+    let grouped = threads_grouped plan.groups trace g plan.some_groups is in
     let own : IsGrouped g thread_zero = grouped thread_zero (inr ((signed_Decides thread_zero thread_zero).1 refl)) in
     before_all P (begin_of trace) (trace ++ end_of trace ∷ []) own
     (All-append P trace (end_of trace ∷ []) (λ k d lt. grouped (thread_of (get_or trace k d)) (inl (contained trace k d lt))) (one_of P (end_of trace) own))

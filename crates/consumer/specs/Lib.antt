@@ -1,6 +1,7 @@
 pub mod Vocabulary
 pub mod Answer
 pub mod Blocks
+pub mod Bounds
 pub mod Bundle
 pub mod Consuming
 pub mod Judging

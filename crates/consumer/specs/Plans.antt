@@ -1,18 +1,9 @@
 -- Plans, and which thread is in which group of a plan.
-use Rattle.std.specs.Prelude.{◌≡◌, ◌≤◌, List, ⊤}
+use Rattle.std.specs.Prelude.{◌≡◌, List}
 use Rattle.shard_queue.specs.{Groupings.IsDealt, Threads.items_of}
 use Rattle.shard_queue.specs.Faults.{IsListed, IsListFault}
 use Rattle.consumer.specs.Vocabulary.{Firing, Grouping, GroupFault, GroupPlan, Dealt, Lists, Plan}
-use Rattle.consumer.specs.Vocabulary.{Dif, MAX_GROUPS, MAX_WORKERS}
-
-abbrev pub AreInBounds : GroupPlan → Type 0
-AreInBounds (Dealt n) = (1 ≤ n) × (n ≤ MAX_GROUPS)
-AreInBounds (Lists lists) = ⊤
-
--- the numbers of its workers and of its dealt groups are in bounds
-pub record IsInBounds (plan : Plan) : Type 0 where
-  pub workers : (1 ≤ plan.workers) × (plan.workers ≤ MAX_WORKERS)
-  pub groups : AreInBounds plan.groups
+use Rattle.consumer.specs.Vocabulary.{Dif}
 
 -- four workers, sixteen groups and compiled code
 pub record IsDefault (plan : Plan) : Type 0 where

@@ -1,7 +1,6 @@
 //! From the bytes in to the bytes out.
 
 ghost use Rattle.std.specs.Prelude.{◌≡◌, ◌≢◌, [], List, ℕ, Err, IfErr, IsFalse, Ok, OnOk};
-ghost use Rattle.consumer.specs.{Plans.IsInBounds};
 ghost use Rattle.consumer.specs.Consuming.{IsReadToEnd, WritesAnswer, WritesBundle, WritesOut};
 ghost use Rattle.consumer.specs.Consuming.{WritesOver, fault_of_reading};
 ghost use Rattle.consumer.specs.{Judging.IsJudged, Replaying.IsReplay};
@@ -69,7 +68,6 @@ impl<'a, R: Threads + Wait + Sync, L: Layout> Consumer<'a, R, L> {
         sink: &mut S,
         plan: &Plan,
     ) -> Result<Replayed, ConsumeFault>
-        requires plan { IsInBounds plan.now }
         requires feed { IsFalse (F.seen feed.old).has_failed }
         requires sink { IsFalse (S.seen sink.old).has_failed }
         ensures read { IsReadToEnd (F.seen feed.old) (F.seen feed.new) result }
@@ -109,7 +107,6 @@ impl<'a, R: Threads + Wait + Sync, L: Layout> Consumer<'a, R, L> {
         sink: &mut S,
         plan: &Plan,
     ) -> Result<Replayed, ConsumeFault>
-        requires plan { IsInBounds plan.now }
         requires feed { IsFalse (F.seen feed.old).has_failed }
         requires sink { IsFalse (S.seen sink.old).has_failed }
         ensures read { IsReadToEnd (F.seen feed.old) (F.seen feed.new) result }
@@ -145,8 +142,7 @@ impl<'a, R: Threads + Wait + Sync, L: Layout> Consumer<'a, R, L> {
         sink: &mut S,
         plan: &Plan,
     ) -> Result<Replayed, ConsumeFault>
-        requires plan { IsInBounds plan.now }
-        requires sink { IsFalse (S.seen sink.old).has_failed }
+        requires { IsFalse (S.seen sink.old).has_failed }
         ensures read { result ≢ Err ConsumeFault.Read }
         ensures shown { (script trace : List ℕ) → IsJudged script taken.entry.script
             → OnOk taken.entry.script (reads taken.entry.trace [] ≡ trace_of trace)
@@ -163,7 +159,6 @@ impl<'a, R: Threads + Wait + Sync, L: Layout> Consumer<'a, R, L> {
 
     // The answer of a script over the trace that was taken for it.
     fn answer(&self, taken: TraceIntake<'_, R>, plan: &Plan) -> Result<Replayed, Refusal>
-        requires { IsInBounds plan.now }
         ensures { (script trace : List ℕ) → IsJudged script taken.entry.script
             → OnOk taken.entry.script (reads taken.entry.trace [] ≡ trace_of trace)
             → IsReplay L.shows script trace plan.now result }

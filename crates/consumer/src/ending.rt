@@ -1,7 +1,6 @@
 //! How the program ends: what it says on standard error, and its status.
 
-ghost use Rattle.std.specs.Prelude.{◌≡◌, ◌∷◌, ◌++◌, [], Err, IsFalse};
-ghost use Rattle.streams.specs.Stream.{IsSent};
+ghost use Rattle.std.specs.Prelude.{◌≡◌, Err, IsFalse};
 ghost use Rattle.consumer.specs.{Lines.reason_bytes};
 ghost use Rattle.consumer.specs.Refusals.{IsReported, consume_fault_line, status_at_end};
 
@@ -12,8 +11,8 @@ use crate::reason::{Place, Reason};
 use crate::refusal::{refusal_reason, refusal_status};
 use streams::{Sink, send};
 
-/// Writes why there is no answer to the errors' stream, if there is none, and returns the exit
-/// status. It allocates nothing.
+/// Writes why there is no answer to the errors' stream in one piece, if there is none, and returns
+/// the exit status. It allocates nothing.
 ///
 /// ```text
 /// end(&mut errors, &Err(ConsumeFault::Write)); // 1, and the line `dreplay: write failed`
@@ -24,7 +23,10 @@ pub fn end<E: Sink>(errors: &mut E, answer: &Result<Replayed, ConsumeFault>) -> 
     ensures line { IsReported answer.now (E.seen errors.old) (E.seen errors.new) }
 {
     if let Err(fault) = answer {
-        tell(errors, fault);
+        let mut line = reason_line(fault_reason(fault));
+        line.push('\n');
+        // If that fails, the status still shows the fault.
+        let _ = send(errors, line.as_str().as_bytes());
     }
     status_at_end(answer)
 }
@@ -43,17 +45,6 @@ pub fn fail<E: Sink>(errors: &mut E, fault: ConsumeFault) -> u8
     let status = end(errors, &answer);
     drop(answer);
     status
-}
-
-// Writes the line of a fault in one piece. If that fails, the status still shows the fault.
-fn tell<E: Sink>(errors: &mut E, fault: &ConsumeFault)
-    requires { IsFalse (E.seen errors.old).has_failed }
-    ensures { IsSent (consume_fault_line fault.now ++ 10 ∷ [])
-        (E.seen errors.old) (E.seen errors.new) }
-{
-    let mut line = reason_line(fault_reason(fault));
-    line.push('\n');
-    let _ = send(errors, line.as_str().as_bytes());
 }
 
 // The text and the place in the line of a fault.

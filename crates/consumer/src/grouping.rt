@@ -1,10 +1,11 @@
 //! The groups of a plan.
 
-ghost use Rattle.std.specs.Prelude.{◌≡◌, ◌⊎◌, IfErr, IfOk};
+ghost use Rattle.std.specs.Prelude.{◌≡◌, ◌≤◌, ◌⊎◌, IfErr, IfOk};
 ghost use Rattle.shard_queue.specs.{Threads.run_threads};
 ghost use Rattle.shard_queue.specs.{declared.fault.GroupFault.TheVariants.Memory};
 ghost use Rattle.shard_queue.specs.Groups.{AreOf, grouping};
-ghost use Rattle.consumer.specs.Plans.{AreInBounds, IsGroupedBy, IsMisgrouped};
+ghost use Rattle.consumer.specs.{Bounds.dealt, Vocabulary.MAX_GROUPS};
+ghost use Rattle.consumer.specs.Plans.{IsGroupedBy, IsMisgrouped};
 
 use crate::plan::GroupPlan;
 use firings::Trace;
@@ -19,7 +20,7 @@ use std::alloc::Global;
 /// groups_of(alloc, &GroupPlan::Lists(none), &trace); // Err(GroupFault::Missing { thread: 3 })
 /// ```
 pub fn groups_of(alloc: Global, plan: &GroupPlan, trace: &Trace) -> Result<Groups, GroupFault>
-    requires { AreInBounds plan.now }
+    requires { (1 ≤ dealt plan.now) × (dealt plan.now ≤ MAX_GROUPS) }
     ensures grouped { IfOk result (λ g. IsGroupedBy plan.now trace.now (grouping g)) }
     ensures of { IfOk result (λ g. AreOf g (run_threads trace.now)) }
     ensures fault { IfErr result (λ e. (e ≡ Memory) ⊎ IsMisgrouped plan.now trace.now e) }

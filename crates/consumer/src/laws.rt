@@ -11,7 +11,7 @@ ghost use Rattle.consumer.specs.Vocabulary.{DisplayHelp, ErrorKind, Firing, Grou
 ghost use Rattle.consumer.specs.Vocabulary.{Group, GroupFault, Memory, Refusal, Replayed, Request};
 ghost use Rattle.consumer.specs.Answer.{IsAnswer, IsSameAnswer, Shown, without_line};
 ghost use Rattle.consumer.specs.Program.{Ends, IsBroken, IsRequest, StreamsSeen, WriteAlike};
-ghost use Rattle.consumer.specs.Plans.{IsDefault, IsGroupedBy, IsInBounds, IsMisgrouped};
+ghost use Rattle.consumer.specs.Plans.{IsDefault, IsGroupedBy, IsMisgrouped};
 ghost use Rattle.consumer.specs.Replaying.{IsOfPlan, IsReplay, output_of, ran_in};
 ghost use Rattle.consumer.specs.Words.{Asks, AsksHelp, IsPlanBy, Mistakes, AskForRun, SetPlan};
 ghost use Rattle.consumer.specs.Words.{file_in, program};
@@ -65,7 +65,7 @@ pub fn refusals_are_plain<L: Layout>()
 
 /// Under each plan every firing of a run has a group, BEGIN and END too.
 pub fn plans_have_groups()
-    ensures { (plan : Plan) (trace : List Firing) (grouping : Grouping) → IsInBounds plan
+    ensures { (plan : Plan) (trace : List Firing) (grouping : Grouping)
         → IsGroupedBy plan.groups trace grouping → AreGrouped grouping (with_ends trace trace) }
 {}
 

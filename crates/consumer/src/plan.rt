@@ -1,5 +1,9 @@
 //! How a run is carried out, and what it gave.
 
+ghost use Rattle.std.specs.Prelude.{◌≤◌};
+ghost use Rattle.shard_queue.specs.declared.limits.TheConstants.{MAX_GROUPS, MAX_WORKERS};
+ghost use Rattle.consumer.specs.Bounds.{dealt};
+
 use keyed_hash::HashKey;
 
 /// How a run is carried out. The answer is the same under every plan.
@@ -15,6 +19,10 @@ pub struct Plan {
     pub groups: GroupPlan,
     /// What evaluates the script.
     pub engine: EngineKind,
+    pub ghost some_workers: { 1 ≤ workers },
+    pub ghost few_workers: { workers ≤ MAX_WORKERS },
+    pub ghost some_groups: { 1 ≤ dealt groups },
+    pub ghost few_groups: { dealt groups ≤ MAX_GROUPS },
 }
 
 /// How a trace is read as it comes.

@@ -1,7 +1,6 @@
 //! What the program does with its words, its files and its streams.
 
-ghost use Rattle.std.specs.Prelude.{◌≡◌, IfOk, IsFalse, MatchResult};
-ghost use Rattle.consumer.specs.{Plans.IsInBounds};
+ghost use Rattle.std.specs.Prelude.{◌≡◌, IsFalse, MatchResult};
 ghost use Rattle.consumer.specs.Program.{AreUnfailed, Ends, EndsWithoutRun, IsNoRequest, IsRequest};
 ghost use Rattle.consumer.specs.Program.{IsRunOf, streams_seen};
 ghost use Rattle.consumer.specs.Steps.Program.{EndsWithRun};
@@ -92,8 +91,7 @@ impl<'a, R: Threads + Wait + Sync, L: Layout> Consumer<'a, R, L> {
         request: &Request,
         streams: &mut Streams<F, S, E>,
     ) -> u8
-        requires plan { IsInBounds request.now.plan }
-        requires unfailed { AreUnfailed (streams_seen F.seen S.seen E.seen streams.old) }
+        requires { AreUnfailed (streams_seen F.seen S.seen E.seen streams.old) }
         ensures { EndsWithRun L.shows request.now (C.bytes files.now)
             (streams_seen F.seen S.seen E.seen streams.old)
             (streams_seen F.seen S.seen E.seen streams.new) result }
@@ -111,8 +109,7 @@ impl<'a, R: Threads + Wait + Sync, L: Layout> Consumer<'a, R, L> {
         request: &Request,
         streams: &mut Streams<F, S, E>,
     ) -> Result<Replayed, ConsumeFault>
-        requires plan { IsInBounds request.now.plan }
-        requires unfailed { AreUnfailed (streams_seen F.seen S.seen E.seen streams.old) }
+        requires { AreUnfailed (streams_seen F.seen S.seen E.seen streams.old) }
         ensures run { IsRunOf L.shows request.now (C.bytes files.now)
             (streams_seen F.seen S.seen E.seen streams.old)
             (streams_seen F.seen S.seen E.seen streams.new) result }
@@ -139,8 +136,7 @@ impl<'a, R: Threads + Wait + Sync, L: Layout> Consumer<'a, R, L> {
 
 // What the program's words ask for.
 fn request(alloc: Global, help: Help, given: io::Result<Args>) -> Result<Request, UsageFault>
-    ensures exact { MatchResult result (IsRequest given) (IsNoRequest given) }
-    ensures plan { IfOk result (λ request. IsInBounds request.plan) }
+    ensures { MatchResult result (IsRequest given) (IsNoRequest given) }
 {
     let words = program_words(alloc, help, given)?;
     let words = texts_of(alloc, &words)?;

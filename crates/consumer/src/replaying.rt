@@ -5,9 +5,9 @@ ghost use Rattle.firing_reader.specs.{Gives.Gives};
 ghost use Rattle.shard_queue.specs.{Groups.AreOf, Groups.grouping, Threads.run_threads};
 ghost use Rattle.replay_core.specs.Exit.{firings_over};
 ghost use Rattle.consumer.specs.{Answer.IsShown, Scripts.IsAccepted};
-ghost use Rattle.consumer.specs.Vocabulary.{Firing, Grouping, Plan, ScriptMeant, functions_in};
+ghost use Rattle.consumer.specs.Vocabulary.{Firing, Grouping, Plan, functions_in};
 ghost use Rattle.consumer.specs.Vocabulary.{functions_of, trace_of, typed_script_of};
-ghost use Rattle.consumer.specs.Plans.{IsGroupedBy, IsInBounds};
+ghost use Rattle.consumer.specs.{Plans.IsGroupedBy};
 ghost use Rattle.consumer.specs.Replaying.{IsAnswered, IsCarriedOut, IsRefusalUnder, IsReplay};
 ghost use Rattle.consumer.specs.Replaying.{IsRunUnder, output_of};
 ghost use Rattle.consumer.specs.Steps.Replaying.{IsRunBy};
@@ -21,7 +21,7 @@ use d_types::TypedScript;
 use dif_codegen::compile;
 use firing_reader::{TraceFault, read_trace_by};
 use firings::Trace;
-use replay_core::{DifLanes, Gate, Lanes, Layout, OpenGate, TreeLanes, Whole, run_all};
+use replay_core::{DifLanes, Gate, Layout, OpenGate, TreeLanes, Whole, run_all};
 use shard_queue::Groups;
 use std::alloc::AllocError;
 use std::sync::Wait;
@@ -43,7 +43,6 @@ impl<'a, R: Threads + Wait + Sync, L: Layout> Consumer<'a, R, L> {
     /// consumer.replay(b"BEGIN {\n 08 }", &trace, &plan); // Err(Refusal::Lex(..)), of line 2
     /// ```
     pub fn replay(&self, script: &[u8], trace: &[u8], plan: &Plan) -> Result<Replayed, Refusal>
-        requires { IsInBounds plan.now }
         ensures answer { IsAnswered L.shows script.now trace.now result }
         ensures fault { IfErr result (IsRefusalUnder plan.now script.now trace.now) }
         ensures carried { IfOk result (IsRunUnder plan.now script.now trace.now) }
@@ -64,10 +63,7 @@ impl<'a, R: Threads + Wait + Sync, L: Layout> Consumer<'a, R, L> {
         plan: &Plan,
         gate: &G,
     ) -> Result<Replayed, Refusal>
-        requires { IsInBounds plan.now }
-        ensures answer { IsAnswered L.shows script.now trace.now result }
-        ensures fault { IfErr result (IsRefusalUnder plan.now script.now trace.now) }
-        ensures carried { IfOk result (IsRunUnder plan.now script.now trace.now) }
+        ensures { IsReplay L.shows script.now trace.now plan.now result }
     {
         let alloc = self.alloc;
         let script = judge(alloc, script)?;
@@ -85,7 +81,6 @@ impl<'a, R: Threads + Wait + Sync, L: Layout> Consumer<'a, R, L> {
         plan: &Plan,
         gate: &G,
     ) -> Result<Replayed, Refusal>
-        requires { IsInBounds plan.now }
         ensures { (source trace : List ℕ) → IsAccepted source (typed_script_of script.now)
             → Gives read (trace_of trace) → IsReplay L.shows source trace plan.now result }
     {
@@ -103,7 +98,6 @@ impl<'a, R: Threads + Wait + Sync, L: Layout> Consumer<'a, R, L> {
         plan: &Plan,
         gate: &G,
     ) -> Result<Replayed, Refusal>
-        requires { IsInBounds plan.now }
         ensures { (source bytes : List ℕ) → IsAccepted source (typed_script_of script.now)
             → trace_of bytes ≡ Ok trace.now → IsReplay L.shows source bytes plan.now result }
     {
@@ -123,8 +117,7 @@ impl<'a, R: Threads + Wait + Sync, L: Layout> Consumer<'a, R, L> {
         plan: &Plan,
         gate: &G,
     ) -> Result<Replayed, AllocError>
-        requires plan { IsInBounds plan.now }
-        requires groups { AreOf groups.now (run_threads trace.now) }
+        requires { AreOf groups.now (run_threads trace.now) }
         ensures { let m = typed_script_of script.now in
             IsGroupedBy plan.now.groups trace.now (grouping groups.now)
             → IfOk result (λ r. IsShown L.shows m trace.now (output_of r)
@@ -143,44 +136,24 @@ impl<'a, R: Threads + Wait + Sync, L: Layout> Consumer<'a, R, L> {
         plan: &Plan,
         gate: &G,
     ) -> Result<Ran, AllocError>
-        requires plan { IsInBounds plan.now }
-        requires groups { AreOf groups.now (run_threads trace.now) }
+        requires { AreOf groups.now (run_threads trace.now) }
         ensures { IfOk result (IsRunBy (typed_script_of script.now) trace.now
             (grouping groups.now) plan.now.workers) }
     {
+        let workers = plan.workers;
         match plan.engine {
             EngineKind::Tree => {
                 let lanes = TreeLanes::with_hash_key(self.hash_key, script);
-                self.run_lanes(&lanes, trace, groups, plan, gate)
+                run_all(self.rt, self.alloc, &lanes, trace, groups, workers, gate)
             }
             EngineKind::Dif => {
                 let program = compile(self.alloc, script)?;
                 let lanes = DifLanes::with_hash_key(self.hash_key, &program);
-                let ran = self.run_lanes(&lanes, trace, groups, plan, gate);
+                let ran = run_all(self.rt, self.alloc, &lanes, trace, groups, workers, gate);
                 drop(program);
                 ran
             }
         }
-    }
-
-    // Runs what lanes run over a trace, by the workers of a plan.
-    fn run_lanes<K: Lanes + Sync, G: Gate + Sync>(
-        &self,
-        lanes: &K,
-        trace: &Trace,
-        groups: &Groups,
-        plan: &Plan,
-        gate: &G,
-    ) -> Result<Ran, AllocError>
-        requires plan { IsInBounds plan.now }
-        requires groups { AreOf groups.now (run_threads trace.now) }
-        requires script { (m : ScriptMeant) × K.runs lanes.now m }
-        ensures { (m : ScriptMeant) → K.runs lanes.now m
-            → IfOk result (IsRunBy m trace.now
-            (grouping groups.now) plan.now.workers) }
-    {
-        let workers = plan.workers;
-        run_all(self.rt, self.alloc, lanes, trace, groups, workers, gate)
     }
 
     // What a run shows.

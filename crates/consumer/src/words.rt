@@ -8,7 +8,7 @@ ghost use Rattle.consumer.specs.{Vocabulary.into_iter_items, Vocabulary.Signed};
 ghost use Rattle.consumer.specs.{declared.words.UsageFault.TheVariants.Memory};
 ghost use Rattle.consumer.specs.Words.{Asks, HasPlan, IsFaultOf, IsMistake, IsNumberIn, IsPlanIn};
 ghost use Rattle.consumer.specs.Words.{IsRequestIn, engine_called, engine_in};
-ghost use Rattle.consumer.specs.Steps.Words.{IsOption, IsPlanFault, IsReportedAs};
+ghost use Rattle.consumer.specs.Steps.Words.{HasRule, IsPlanFault, IsReportedAs};
 ghost use Rattle.consumer.specs.Words.{bare, file_in, number_option, option, option_or, program};
 
 use crate::plan::{EngineKind, GroupPlan, Plan};
@@ -169,14 +169,14 @@ fn bare_command<'a>(alloc: Global, help: Help) -> Command<'a>
 
 // The option -s: the script's file.
 fn script_option<'a>(alloc: Global) -> Arg<'a>
-    ensures { IsOption (option (codes "script") 115) result }
+    ensures { HasRule (option (codes "script") 115) result }
 {
     option(alloc, "script", 's', "FILE", SCRIPT)
 }
 
 // The option -w: how many workers run.
 fn workers_option<'a>(alloc: Global) -> Arg<'a>
-    ensures { IsOption (number_option (codes "workers") 119 MAX_WORKERS (codes "4")) result }
+    ensures { HasRule (number_option (codes "workers") 119 MAX_WORKERS (codes "4")) result }
 {
     let workers = with_default(option(alloc, "workers", 'w', "N", WORKERS), "4");
     with_numbers(workers, MAX_WORKERS)
@@ -184,7 +184,7 @@ fn workers_option<'a>(alloc: Global) -> Arg<'a>
 
 // The option -g: how many groups the threads are dealt into.
 fn groups_option<'a>(alloc: Global) -> Arg<'a>
-    ensures { IsOption (number_option (codes "groups") 103 MAX_GROUPS (codes "16")) result }
+    ensures { HasRule (number_option (codes "groups") 103 MAX_GROUPS (codes "16")) result }
 {
     let groups = with_default(option(alloc, "groups", 'g', "N", GROUPS), "16");
     with_numbers(groups, MAX_GROUPS)
@@ -192,14 +192,14 @@ fn groups_option<'a>(alloc: Global) -> Arg<'a>
 
 // The option -e: the engine's name.
 fn engine_option<'a>(alloc: Global) -> Arg<'a>
-    ensures { IsOption (option_or (codes "engine") 101 (codes "dif")) result }
+    ensures { HasRule (option_or (codes "engine") 101 (codes "dif")) result }
 {
     with_default(option(alloc, "engine", 'e', "ENGINE", ENGINE), "dif")
 }
 
 // An option with a name of one letter.
 fn option<'a>(alloc: Global, id: &'a str, letter: char, value: &'a str, help: &'a str) -> Arg<'a>
-    ensures { IsOption (option id.entry.now letter) result }
+    ensures { HasRule (option id.entry.now letter) result }
 {
     Arg::new(alloc, id)
         .short(letter)

@@ -1,8 +1,5 @@
 //! Tests of the crate's calls, each with its answer.
 
-ghost use Rattle.std.specs.Prelude.{IfOk};
-ghost use Rattle.consumer.specs.Plans.{IsInBounds};
-
 use crate::{
     Asked, ConsumeFault, EngineKind, GroupPlan, Plan, Refusal, Replayed, UsageFault, consume,
     read_words, refusal_status, refusal_text, replay,
@@ -37,9 +34,7 @@ arg0,arg1,arg2,arg3,arg4,arg5,arg6,arg7,arg8,arg9\n\
 const SHOWN: &[u8] = b"\n  read                                                             90\n";
 
 // Two workers, and a group for each of two threads.
-pub(crate) fn plan_for_two(engine: EngineKind) -> Plan
-    ensures { IsInBounds result }
-{
+pub(crate) fn plan_for_two(engine: EngineKind) -> Plan {
     Plan {
         workers: 2,
         groups: GroupPlan::Dealt(2),
@@ -80,9 +75,7 @@ fn replay_sums_latency_by_either_engine(rt: HostRuntime) {
 }
 
 // Two workers, and a group for each of these threads.
-fn plan_of_lists(alloc: Global, threads: &[i32]) -> Result<Plan, AllocError>
-    ensures { IfOk result IsInBounds }
-{
+fn plan_of_lists(alloc: Global, threads: &[i32]) -> Result<Plan, AllocError> {
     let mut groups = Vec::new(alloc);
     for thread in threads {
         let list = Vec::from_slice(alloc, &[*thread])?;
@@ -222,46 +215,44 @@ fn consume_refuses_a_bundle_without_a_trace(rt: HostRuntime) {
     assert!(rt; is_refused && out.is_empty());
 }
 
-const ASKED: [(&[&str], &str, u32, u32, EngineKind); 5] = [
-    (&[], "", 4, 16, EngineKind::Dif),
+// The script's file, or no name for a bundle, and how many workers, how many groups and what engine.
+type Wanted<'a> = (&'a str, u32, u32, EngineKind);
+
+const ASKED: [(&[&str], Wanted<'_>); 5] = [
+    (&[], ("", 4, 16, EngineKind::Dif)),
     (
         &["-w", "16", "-g", "4096", "-e", "tree"],
-        "",
-        16,
-        4096,
-        EngineKind::Tree,
+        ("", 16, 4096, EngineKind::Tree),
     ),
-    (&["-s", "s.d", "-w", "2"], "s.d", 2, 16, EngineKind::Dif),
-    (&["-w1", "-g1", "-edif"], "", 1, 1, EngineKind::Dif),
-    (&["-g", "+7"], "", 4, 7, EngineKind::Dif),
+    (&["-s", "s.d", "-w", "2"], ("s.d", 2, 16, EngineKind::Dif)),
+    (&["-w1", "-g1", "-edif"], ("", 1, 1, EngineKind::Dif)),
+    (&["-g", "+7"], ("", 4, 7, EngineKind::Dif)),
 ];
 
-// Whether this is asked for, of the script in this file, or of a bundle if it has no name.
-fn is_asked(asked: &Asked, file: &str, plan: &Plan) -> bool {
+// Whether this is asked for.
+fn is_asked(asked: &Asked, wanted: Wanted<'_>) -> bool {
+    let (file, workers, groups, engine) = wanted;
     let is_file = match &asked.file {
         Some(name) => name.as_str() == file,
         None => file.is_empty(),
     };
-    is_file && asked.plan == *plan
+    let plan = &asked.plan;
+    let is_dealt = plan.groups == GroupPlan::Dealt(groups);
+    is_file && plan.workers == workers && is_dealt && plan.engine == engine
 }
 
 // Whether these words ask for this.
-fn ask_for(alloc: Global, words: &[&str], file: &str, plan: &Plan) -> bool {
+fn ask_for(alloc: Global, words: &[&str], wanted: Wanted<'_>) -> bool {
     match read_words(alloc, words) {
-        Ok(asked) => is_asked(&asked, file, plan),
+        Ok(asked) => is_asked(&asked, wanted),
         Err(_) => false,
     }
 }
 
 #[test]
 fn words_name_a_file_and_a_plan(rt: HostRuntime) {
-    for (words, file, workers, groups, engine) in ASKED {
-        let plan = Plan {
-            workers,
-            groups: GroupPlan::Dealt(groups),
-            engine,
-        };
-        assert!(rt; ask_for(rt.alloc(), words, file, &plan), "{words:?}");
+    for (words, wanted) in ASKED {
+        assert!(rt; ask_for(rt.alloc(), words, wanted), "{words:?}");
     }
 }
 

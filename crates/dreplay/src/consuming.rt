@@ -1,7 +1,6 @@
 //! From the bytes of a bundle to its report.
 
 ghost use Rattle.std.specs.Prelude.{◌≡◌, ◌≢◌, Err, IfErr, IsFalse};
-ghost use Rattle.consumer.specs.{Plans.IsInBounds};
 ghost use Rattle.consumer.specs.Consuming.{IsReadToEnd, WritesBundle};
 ghost use Rattle.report.specs.{Report.IsReport};
 
@@ -29,7 +28,6 @@ pub fn consume<R: Threads + Wait + Sync, F: Feed + Send, S: Sink>(
     sink: &mut S,
     plan: &Plan,
 ) -> Result<Replayed, ConsumeFault>
-    requires plan { IsInBounds plan.now }
     requires feed { IsFalse (F.seen feed.old).has_failed }
     requires sink { IsFalse (S.seen sink.old).has_failed }
     ensures read { IsReadToEnd (F.seen feed.old) (F.seen feed.new) result }

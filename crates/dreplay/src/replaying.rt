@@ -1,8 +1,7 @@
 //! The report of a script over a trace.
 
 ghost use Rattle.std.specs.Prelude.{IfErr, IfOk};
-ghost use Rattle.consumer.specs.{Plans.IsInBounds};
-ghost use Rattle.consumer.specs.Replaying.{IsAnswered, IsRefusalUnder, IsRunUnder};
+ghost use Rattle.consumer.specs.Replaying.{IsAnswered, IsRefusalUnder, IsReplay, IsRunUnder};
 ghost use Rattle.report.specs.{Report.IsReport};
 
 use consumer::{Consumer, Plan, Refusal, Replayed};
@@ -30,7 +29,6 @@ pub fn replay<R: Threads + Wait + Sync>(
     trace: &[u8],
     plan: &Plan,
 ) -> Result<Replayed, Refusal>
-    requires { IsInBounds plan.now }
     ensures answer { IsAnswered IsReport script.now trace.now result }
     ensures fault { IfErr result (IsRefusalUnder plan.now script.now trace.now) }
     ensures carried { IfOk result (IsRunUnder plan.now script.now trace.now) }
@@ -52,10 +50,7 @@ pub fn replay_with<R: Threads + Wait + Sync, G: Gate + Sync>(
     plan: &Plan,
     gate: &G,
 ) -> Result<Replayed, Refusal>
-    requires { IsInBounds plan.now }
-    ensures answer { IsAnswered IsReport script.now trace.now result }
-    ensures fault { IfErr result (IsRefusalUnder plan.now script.now trace.now) }
-    ensures carried { IfOk result (IsRunUnder plan.now script.now trace.now) }
+    ensures { IsReplay IsReport script.now trace.now plan.now result }
 {
     Consumer::new(rt, alloc, Report).replay_with(script, trace, plan, gate)
 }

@@ -1,7 +1,5 @@
 //! Bundles that come in two blocks, cut at each byte: what is shown doesn't depend on the cut.
 
-ghost use Rattle.consumer.specs.Plans.{IsInBounds};
-
 use crate::replays::reporting;
 use consumer::{ConsumeFault, EngineKind, GroupPlan, Plan, Replayed, refusal_text};
 use std::alloc::{AllocError, AllocGlobal, Global};
@@ -54,9 +52,7 @@ const BUNDLES: [(&[u8], &str); 6] = [
 ];
 
 // A plan with this many workers, at most two.
-fn plan_of(workers: u32) -> Plan
-    ensures { IsInBounds result }
-{
+fn plan_of(workers: u32) -> Plan {
     Plan {
         workers: workers.clamp(1, 2),
         groups: GroupPlan::Dealt(1),

@@ -1,9 +1,6 @@
 //! Calls that no run of the program shows: what ran in which group and by whom, groups as lists,
 //! failing readers and writers, and what is said of each refusal.
 
-ghost use Rattle.std.specs.Prelude.{IfOk};
-ghost use Rattle.consumer.specs.Plans.{IsInBounds};
-
 use consumer::{
     ConsumeFault, Consumer, EngineKind, GroupPlan, Help, Plan, Refusal, Replayed, refusal_status,
     refusal_text,
@@ -142,9 +139,7 @@ pub(crate) fn reporting<R: AllocGlobal>(rt: &R) -> Consumer<'_, R, Report> {
     Consumer::new(rt, rt.alloc(), Report)
 }
 
-fn serial() -> Plan
-    ensures { IsInBounds result }
-{
+fn serial() -> Plan {
     Plan {
         workers: 1,
         groups: GroupPlan::Dealt(1),
@@ -184,9 +179,7 @@ fn consume_trace_by_bytes<R: AllocGlobal + Threads + Wait + Sync>(
 }
 
 // A plan of one worker and two groups.
-fn of_two_groups() -> Plan
-    ensures { IsInBounds result }
-{
+fn of_two_groups() -> Plan {
     Plan {
         workers: 1,
         groups: GroupPlan::Dealt(2),
@@ -217,9 +210,7 @@ fn replays_as<R: AllocGlobal + Threads + Wait + Sync>(
     trace: &[u8],
     plan: &Plan,
     wanted: Wanted<'_>,
-) -> Result<bool, Refusal>
-    requires { IsInBounds plan.now }
-{
+) -> Result<bool, Refusal> {
     let (shown, status, groups, ran) = wanted;
     let replayed = reporting(rt).replay(script, trace, plan)?;
     let is_shown = replayed.bytes.as_slice() == shown && replayed.status == status;
@@ -329,9 +320,7 @@ fn each_refusal_has_its_line_and_status(rt: HostRuntime) -> Result<(), Fail> {
 }
 
 // A plan whose groups are these lists, for two workers.
-fn plan_of_lists(alloc: Global, lists: &[&[i32]]) -> Result<Plan, AllocError>
-    ensures { IfOk result IsInBounds }
-{
+fn plan_of_lists(alloc: Global, lists: &[&[i32]]) -> Result<Plan, AllocError> {
     let mut groups = Vec::new(alloc);
     for list in lists {
         let list = Vec::from_slice(alloc, list)?;

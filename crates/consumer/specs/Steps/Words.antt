@@ -7,8 +7,8 @@ use Rattle.consumer.specs.declared.words.UsageFault.TheVariants.{Help, Usage, Me
 use Rattle.consumer.specs.Words.{IsPlanIn}
 
 -- an option with this rule, of the program and not of commands below it
-abbrev pub IsOption : Rule → Arg → Type 0
-IsOption rule arg = (rule_of arg ≡ rule) × (arg.global ≡ false)
+abbrev pub HasRule : Rule → Arg → Type 0
+HasRule rule arg = (rule_of arg ≡ rule) × (arg.global ≡ false)
 
 -- one of the options has no such value
 abbrev pub IsPlanFault : List Row → UsageFault → Type 0

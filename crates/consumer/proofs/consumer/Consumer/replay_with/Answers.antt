@@ -7,9 +7,8 @@ returns-in_err-script g c =
     let p = err_from_is_err_and c.from_residual.result c.from_residual.ensures.1 in
     let is = refused g.L.Layout.shows c.args.script.now c.args.trace.now c.args.plan.now c.in_err-script.field-0.0
     (script_refused c.args.script.now c.args.trace.now c.args.plan.now c.in_err-script.field-0.0 c.in_err-script.ensures) in
-    rw (p.1, p.2) (record { answer = is.answer; fault = is.fault; carried = is.carried })
+    rw (p.1, p.2) is
 
 pub returns : goal.returns
 returns g c =
-    let is = c.replay_read-replayed.ensures c.args.script.now c.args.trace.now c.in_ok-script.ensures c.read_trace_by-read.ensures in
-    record { answer = is.answer; fault = is.fault; carried = is.carried }
+    c.replay_read-replayed.ensures c.args.script.now c.args.trace.now c.in_ok-script.ensures c.read_trace_by-read.ensures

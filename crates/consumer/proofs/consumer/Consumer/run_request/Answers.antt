@@ -7,7 +7,7 @@ use Rattle.consumer.proofs.consumer.Consumer.run_request.Goals as goal
 -- the file of -s was not read
 pub returns-in-Err-clause-run : goal.returns-in-Err-clause-run
 returns-in-Err-clause-run g c = script_unread c.args.request.now _ _ (Err c.in-Err.fault) c.in-Err.fault
-    c.in-Some.file.now c.in-Some.is c.requires.unfailed refl c.in-Err.ensures.fault
+    c.in-Some.file.now c.in-Some.is c.requires refl c.in-Err.ensures.fault
 
 -- it was read, or so much of it that it is too long
 pub returns-in-Ok-clause-run : goal.returns-in-Ok-clause-run
