@@ -44,7 +44,7 @@ again R5 = refl
 again R6 = refl
 again R7 = refl
 
-same_register : (d r : Reg) → register_number d ≡ register_number r → d ≡ r
+pub same_register : (d r : Reg) → register_number d ≡ register_number r → d ≡ r
 same_register d r e = sym (again d) ∙ ap register_of e ∙ again r
 
 put_other : (xs : List (Option Value)) (d r : Reg) (x : Option Value) → Some d ≢ Some r → at (put xs d x) r ≡ at xs r

@@ -1,6 +1,6 @@
 -- Words as they are held, read and written.
-use Rattle.std.specs.Prelude.{◌≡◌, ◌≢◌, ◌<◌, ◌+◌, ◌∷◌, [], ℕ, zero, suc, List, length, Option, None, Some}
-use Rattle.std.specs.Prelude.{IfSome, map, option_map, slice_get, slice_index_or, slice_set}
+use Rattle.std.specs.Prelude.{◌≡◌, ◌≢◌, ◌<◌, ◌∷◌, [], ℕ, suc, List, length, Option, None, Some}
+use Rattle.std.specs.Prelude.{IfSome, map, option_map, slice_index_or, slice_set}
 use Rattle.std.proofs.Common.{refl, sym, ap, ◌∙◌, subst, arith}
 use Rattle.std.proofs.lemmas.Option.{slice_get_within, get_or_from_slice_get}
 use Rattle.std.specs.List.{All}
@@ -8,42 +8,23 @@ use Rattle.std.proofs.Math.ListN.{get_or-map}
 use Rattle.std.proofs.lemmas.List.{map-set}
 use Rattle.std.proofs.lemmas.List.Elements.{All-weaker}
 use Rattle.numbered.specs.declared.word.Word.{Word}
-use Rattle.numbered.specs.declared.word.Word.TheVariants as word
-use Rattle.numbered.specs.Texts.{AreDistinct, IsNumberOf, Keeps, text_at}
+use Rattle.numbered.specs.Texts.{IsNumberOf, Keeps, text_at}
 use Rattle.d_values.specs.Keys.{part_of}
 use Rattle.dif_validate.specs.Registers.{register_number}
-use Rattle.dif_validate.specs.declared.register.Reg.TheVariants.{R0, R1, R2, R3, R4, R5, R6, R7}
+use Rattle.dif_validate.specs.declared.register.Reg.TheVariants.{R0}
 use Rattle.dif_validate.proofs.Writes.{put_set}
-use Rattle.dif_machine.specs.Vocabulary.{Comparison, Firing, Reg, at, put, Value, Text}
+use Rattle.dif_machine.specs.Vocabulary.{Comparison, Reg, at, put, Value, Text}
 use Rattle.dif_machine.specs.CellLaws.{value_kept}
-use Rattle.dif_machine.specs.Frames.{Frame, at_index, with_register}
+use Rattle.dif_machine.specs.Frames.{Frame}
 use Rattle.dif_machine.specs.Machine.{contents, content_of, found_of, key_in, value_of, AreNumbers, IsWithin, IsContentWithin}
-use Rattle.dif_machine.specs.Machine.{IsSound, Knows}
+use Rattle.dif_machine.specs.Machine.{IsSound, Seen, seen_of}
+use Rattle.dif_machine.specs.Steps.Instructions.{Grows}
 use Rattle.dif_machine.specs.declared.content.Content.{Content}
 use Rattle.dif_machine.specs.declared.content.Content.TheVariants as content
+use Rattle.dif_machine.proofs.Changing.{same_register}
 
 pub not_first : (d : Reg) → (d ≡ R0 → ⊥) → register_number d ≢ 0
-not_first R0 h = absurd (h refl)
-not_first R1 h = λ e. omega (arith, e)
-not_first R2 h = λ e. omega (arith, e)
-not_first R3 h = λ e. omega (arith, e)
-not_first R4 h = λ e. omega (arith, e)
-not_first R5 h = λ e. omega (arith, e)
-not_first R6 h = λ e. omega (arith, e)
-not_first R7 h = λ e. omega (arith, e)
-
--- a frame after a write
-pub with_registers : (s : Frame) (d : Reg) (registers : List (Option Value)) (x : Option Value) → registers ≡ put s.registers d x
-    → record { pc = s.pc; registers = registers; comparison = s.comparison; tuple = s.tuple } ≡ with_register s d x
-with_registers s d registers x e = ap (λ r. record { pc = s.pc; registers = r; comparison = s.comparison; tuple = s.tuple }) e
-
--- at the next index
-pub at_next : (s t : Frame) (next index : ℕ) → next ≡ index + 1 → s ≡ t → at_index s next ≡ at_index t (index + 1)
-at_next s t next index e same i = at_index (same i) (e i)
-
--- what is known of a firing stays so
-pub still_known : (f : Firing) (old new : List (Option (List ℕ))) → new ≡ old → Knows f old → Knows f new
-still_known f old new e = subst (Knows f) (sym e)
+not_first d h e = h (same_register d R0 e)
 
 module _ (texts : List (List ℕ)) where
   pub at_content : (cells : List Content) (a : Reg) → at (contents texts cells) a ≡ content_of texts (slice_index_or cells (register_number a) content.Unset)
@@ -60,9 +41,6 @@ module _ (texts : List (List ℕ)) where
 pub keeps_refl : (texts : List (List ℕ)) → Keeps texts texts
 keeps_refl texts = record { long = omega arith; same = λ n h. refl; distinct = λ d. d }
 
-pub keeps_same : (old new : List (List ℕ)) → new ≡ old → Keeps old new
-keeps_same old new e = record { long = omega (arith, ap length e); same = λ n h. ap (λ t. text_at t n) e; distinct = λ d. subst AreDistinct (sym e) d }
-
 pub keeps_on : (first old new : List (List ℕ)) → Keeps first old → Keeps old new → Keeps first new
 keeps_on first old new a b = record {
   long = omega (arith, a.long, b.long);
@@ -71,11 +49,6 @@ keeps_on first old new a b = record {
 }
 
 module _ (old new : List (List ℕ)) (kept : Keeps old new) where
-  pub content_within : (c : Content) → IsContentWithin old c → IsContentWithin new c
-  content_within content.Unset h = tt
-  content_within (content.Int n) h = h
-  content_within (content.Text n) h = omega (arith, h, kept.long)
-
   content_kept : (c : Content) → IsContentWithin old c → content_of new c ≡ content_of old c
   content_kept content.Unset h = refl
   content_kept (content.Int n) h = refl
@@ -111,6 +84,14 @@ module _ (old new : List (List ℕ)) (kept : Keeps old new) where
       let registers = contents_kept cells s.registers in
       let tuple = key_kept words s.tuple in
       λ i. record { pc = 0; registers = registers i; comparison = known; tuple = tuple i }
+
+  -- what a machine shows, after texts were added
+  pub grown : (cells : List Content) (known : Option Comparison) (words : List Word) (numbers : List (Option ℕ)) (m : Seen) → IsSound old cells words numbers → seen_of old cells known words numbers ≡ m → Grows m (seen_of new cells known words numbers)
+  grown cells known words numbers m s is = subst (λ m. Grows m (seen_of new cells known words numbers)) is (record {
+    kept = kept;
+    frame = frame_kept cells known words numbers s;
+    known = found_kept numbers s.numbers;
+  })
 
 pub number_within : (texts : List (List ℕ)) (n : ℕ) (bytes : List ℕ) → IsNumberOf texts n bytes → n < length texts
 number_within texts n bytes e = slice_get_within texts n bytes e

@@ -10,5 +10,4 @@ pub mod Executing
 pub mod Underway
 pub mod Changing
 pub mod Arriving
-pub mod BuiltIns
 pub mod Numbers

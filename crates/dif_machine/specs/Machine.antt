@@ -8,7 +8,7 @@ pub use Rattle.numbered.specs.Words.{key_in, value_of}
 use Rattle.numbered.specs.Texts.{AreDistinct, text_at}
 use Rattle.dif_machine.specs.declared.content.Content.{Content}
 use Rattle.dif_machine.specs.declared.content.Content.TheVariants as content
-use Rattle.dif_machine.specs.Vocabulary.{Firing, KeyPart, Value, Int, Text}
+use Rattle.dif_machine.specs.Vocabulary.{Comparison, Firing, Value, Int, Text}
 use Rattle.dif_machine.specs.Frames.{Frame}
 
 -- what contracts see of a machine: the texts that it has numbered, its frame, and those of a
@@ -56,6 +56,20 @@ Knows f known = (index : ℕ) (bytes : List ℕ) → slice_get known index ≡ S
 
 abbrev pub knows_nothing : List (Option (List ℕ))
 knows_nothing = None ∷ None ∷ None ∷ None ∷ None ∷ []
+
+-- what a machine shows that holds this
+abbrev pub seen_of : List (List ℕ) → List Content → Option Comparison → List Word
+    → List (Option ℕ) → Seen
+seen_of texts registers comparison tuple numbers = record {
+  texts = texts;
+  frame = record {
+    pc = 0;
+    registers = contents texts registers;
+    comparison = comparison;
+    tuple = key_in texts tuple;
+  };
+  known = found_of texts numbers;
+}
 
 abbrev pub AreNumbers : List (List ℕ) → List (Option ℕ) → Type 0
 AreNumbers texts numbers = All (λ found. IfSome found (λ n. n < length texts)) numbers

@@ -1,10 +1,10 @@
 //! Built-in variables.
 
-ghost use Rattle.std.specs.Prelude.{◌≡◌, ◌≢◌, ◌≤◌, ◌<◌, None, Some, IfOk, length};
+ghost use Rattle.std.specs.Prelude.{◌≡◌, ◌≤◌, ◌<◌, ◌-◌, IfOk, length, slice_index_or};
 ghost use Rattle.numbered.specs.Texts.{Keeps, text_at};
-ghost use Rattle.dif_machine.specs.Machine.{AreNumbers, IsWordOf, Knows, found_of};
-ghost use Rattle.dif_machine.specs.Sources.{argument_of, built_in_of};
-ghost use Rattle.dif_machine.specs.Vocabulary.{Text, Value};
+ghost use Rattle.dif_machine.specs.Machine.{AreNumbers, IsWordOf, Knows, found_of, texts_of};
+ghost use Rattle.dif_machine.specs.Sources.{argument_of, built_ins};
+ghost use Rattle.dif_machine.specs.Vocabulary.{Value};
 
 use firings::Firing;
 use numbered::{Texts, Word};
@@ -21,14 +21,14 @@ pub(crate) fn built_in(
     firing: &Firing,
     v: u8,
 ) -> Result<Word, AllocError>
-    requires there { built_in_of firing.now v ≢ None }
+    requires there { v < 9 }
     requires known { Knows firing.now (found_of texts.old numbers.old) }
     requires numbers { AreNumbers texts.old numbers.old }
     ensures kept { Keeps texts.old texts.new }
     ensures known { Knows firing.now (found_of texts.new numbers.new) }
     ensures numbers { AreNumbers texts.new numbers.new }
-    ensures word { IfOk result (λ word. (value : Value)
-        → built_in_of firing.now v ≡ Some value → IsWordOf texts.new word value) }
+    ensures word { IfOk result (λ word. IsWordOf texts.new word
+        (slice_index_or (built_ins firing.now) v (Value.Int 0))) }
 {
     match v {
         0 => Ok(Word::Int(time(firing))),
@@ -50,7 +50,6 @@ fn text_number(
     firing: &Firing,
     v: u8,
 ) -> Result<u64, AllocError>
-    requires there { built_in_of firing.now v ≢ None }
     requires text { (4 ≤ v) × (v < 9) }
     requires known { Knows firing.now (found_of texts.old numbers.old) }
     requires numbers { AreNumbers texts.old numbers.old }
@@ -58,7 +57,7 @@ fn text_number(
     ensures known { Knows firing.now (found_of texts.new numbers.new) }
     ensures numbers { AreNumbers texts.new numbers.new }
     ensures number { IfOk result
-        (λ n. built_in_of firing.now v ≡ Some (Text (text_at texts.new n))) }
+        (λ n. text_at (texts_of firing.now) (v - 4) ≡ text_at texts.new n) }
     ensures within { IfOk result (λ n. n < length texts.new) }
 {
     match numbers[v as usize - 4] {
@@ -70,7 +69,6 @@ fn text_number(
 // The same if it isn't known.
 #[inline(never)]
 fn find(texts: &mut Texts, numbers: &mut Numbers, firing: &Firing, v: u8) -> Result<u64, AllocError>
-    requires there { built_in_of firing.now v ≢ None }
     requires text { (4 ≤ v) × (v < 9) }
     requires known { Knows firing.now (found_of texts.old numbers.old) }
     requires numbers { AreNumbers texts.old numbers.old }
@@ -78,7 +76,7 @@ fn find(texts: &mut Texts, numbers: &mut Numbers, firing: &Firing, v: u8) -> Res
     ensures known { Knows firing.now (found_of texts.new numbers.new) }
     ensures numbers { AreNumbers texts.new numbers.new }
     ensures number { IfOk result
-        (λ n. built_in_of firing.now v ≡ Some (Text (text_at texts.new n))) }
+        (λ n. text_at (texts_of firing.now) (v - 4) ≡ text_at texts.new n) }
     ensures within { IfOk result (λ n. n < length texts.new) }
 {
     let number = texts.number(text(firing, v))?;
@@ -96,12 +94,9 @@ fn time(firing: &Firing) -> u64
 
 // The bytes of a built-in variable that is a text.
 #[inline(always)]
-#[tactic(auto, using(crate::proofs::BuiltIns::past_the_last))]
 fn text<'a>(firing: &'a Firing, v: u8) -> &'a [u8]
-    requires there { built_in_of firing.now v ≢ None }
-    requires text { 4 ≤ v }
-    ensures is { built_in_of firing.now v ≡ Some (Value.Text result.now) }
-    ensures known { v < 9 }
+    requires { (4 ≤ v) × (v < 9) }
+    ensures { text_at (texts_of firing.now) (v - 4) ≡ result.now }
 {
     match v {
         4 => firing.execname.as_bytes(),

@@ -1,20 +1,20 @@
 //! What changes from step to step, but for the variables.
 
 ghost use Rattle.std.specs.Prelude.{◌≡◌, ◌≢◌, ◌<◌, ◌++◌, ◌∷◌, [], ℕ, List, length};
-ghost use Rattle.std.specs.Prelude.{Some, None, IfOk, OnErr, OnOk};
+ghost use Rattle.std.specs.Prelude.{Some, None, IfOk, OnErr, OnOk, slice_index_or};
 ghost use Rattle.numbered.specs.Texts.{Keeps, text_at};
 ghost use Rattle.d_values.specs.{Keys.part_of, Texts.joined_text};
-ghost use Rattle.dif_machine.specs.Vocabulary.{at, kind_of, set_local, set_own, Value};
-ghost use Rattle.dif_machine.specs.{Operators.call_of};
-ghost use Rattle.dif_machine.specs.Sources.{built_in_of, local_in, own_value};
+ghost use Rattle.dif_machine.specs.Vocabulary.{at, kind_of, Value};
+ghost use Rattle.dif_machine.specs.{Operators.call_of, Sources.built_ins};
 ghost use Rattle.dif_machine.specs.Frames.{start, with_known, with_parts, with_register};
 ghost use Rattle.dif_machine.specs.Machine.{IsContentWithin, IsWithin, IsWordOf, Knows, content_of};
 ghost use Rattle.dif_machine.specs.Machine.{key_in, knows_nothing, value_of};
+ghost use Rattle.dif_machine.specs.Steps.Instructions.{Grows, held_in, kind_in, set_in, with_frame};
 
 use crate::built_in::{Numbers, built_in};
 use crate::comparing::Comparison;
 use crate::content::Content;
-use crate::memory::Memory;
+use crate::memory::{Memory, Variable};
 use crate::tables::value_in;
 use d_values::{Value, Var, join_text};
 use dif_validate::{Function, Reg};
@@ -50,20 +50,11 @@ pub struct Machine {
 }
 
 impl Model for Machine {
-    ghost use Rattle.dif_machine.specs.Machine.{IsSound, Seen, contents, found_of, key_in};
+    ghost use Rattle.dif_machine.specs.Machine.{IsSound, Seen, seen_of};
 
     ghost Value = { Seen };
 
-    ghost view = { λ m. record {
-      texts = m.texts;
-      frame = record {
-        pc = 0;
-        registers = contents m.texts m.registers;
-        comparison = m.comparison;
-        tuple = key_in m.texts m.tuple;
-      };
-      known = found_of m.texts m.numbers;
-    } };
+    ghost view = { λ m. seen_of m.texts m.registers m.comparison m.tuple m.numbers };
 
     ghost invariant = { λ m. IsSound m.texts m.registers m.tuple m.numbers };
 }
@@ -108,9 +99,7 @@ impl Machine {
     /// Before the first instruction, whatever an earlier run left.
     #[inline(always)]
     pub(crate) fn restart(&mut self)
-        ensures texts { self.new.texts ≡ self.old.texts }
-        ensures frame { self.new.frame ≡ start }
-        ensures known { self.new.known ≡ self.old.known }
+        ensures { self.new ≡ with_frame self.old start }
     {
         self.registers = FIRST;
         self.comparison = None;
@@ -180,10 +169,8 @@ impl Machine {
     #[inline(always)]
     pub(crate) fn put(&mut self, d: Reg, word: Word)
         requires { IsWithin self.old.texts word }
-        ensures texts { self.new.texts ≡ self.old.texts }
-        ensures frame { self.new.frame
-            ≡ with_register self.old.frame d (Some (value_of self.old.texts word)) }
-        ensures known { self.new.known ≡ self.old.known }
+        ensures { self.new ≡ with_frame self.old
+            (with_register self.old.frame d (Some (value_of self.old.texts word))) }
     {
         if d == Reg::R0 {
             return;
@@ -194,9 +181,7 @@ impl Machine {
     /// Keeps a comparison.
     #[inline(always)]
     pub(crate) fn compare(&mut self, comparison: Comparison)
-        ensures texts { self.new.texts ≡ self.old.texts }
-        ensures frame { self.new.frame ≡ with_known self.old.frame comparison }
-        ensures known { self.new.known ≡ self.old.known }
+        ensures { self.new ≡ with_frame self.old (with_known self.old.frame comparison) }
     {
         self.comparison = Some(comparison);
     }
@@ -218,10 +203,8 @@ impl Machine {
     pub(crate) fn push(&mut self, word: Word)
         requires room { length self.old.frame.tuple < 8 }
         requires within { IsWithin self.old.texts word }
-        ensures texts { self.new.texts ≡ self.old.texts }
-        ensures frame { self.new.frame ≡ with_parts self.old.frame
-            (self.old.frame.tuple ++ part_of (value_of self.old.texts word) ∷ []) }
-        ensures known { self.new.known ≡ self.old.known }
+        ensures { self.new ≡ with_frame self.old (with_parts self.old.frame
+            (self.old.frame.tuple ++ part_of (value_of self.old.texts word) ∷ [])) }
     {
         self.tuple.push(word);
     }
@@ -229,180 +212,92 @@ impl Machine {
     /// Empties the tuple.
     #[inline(always)]
     pub(crate) fn flush(&mut self)
-        ensures texts { self.new.texts ≡ self.old.texts }
-        ensures frame { self.new.frame ≡ with_parts self.old.frame [] }
-        ensures known { self.new.known ≡ self.old.known }
+        ensures { self.new ≡ with_frame self.old (with_parts self.old.frame []) }
     {
         self.tuple.clear();
     }
 
-    /// Puts what a function makes of the tuple into a register.
+    /// The word of what a function makes of the tuple.
     #[inline(never)]
-    pub(crate) fn call(&mut self, function: Function, d: Reg) -> Result<(), AllocError>
+    pub(crate) fn call(&mut self, function: Function) -> Result<Word, AllocError>
         requires { call_of function self.old.frame.tuple ≢ None }
-        ensures kept { Keeps self.old.texts self.new.texts }
-        ensures frame { OnOk result ((value : Value)
+        ensures grows { Grows self.old self.new }
+        ensures word { IfOk result (λ word. (value : Value)
             → call_of function self.old.frame.tuple ≡ Some value
-            → self.new.frame ≡ with_register self.old.frame d (Some value)) }
-        ensures known { self.new.known ≡ self.old.known }
+            → IsWordOf self.new.texts word value) }
     {
-        let word = call(self.alloc, &mut self.texts, function, self.tuple.words())?;
-        self.put(d, word);
-        Ok(())
+        call(self.alloc, &mut self.texts, function, self.tuple.words())
     }
 
-    /// Puts a text into a register.
+    /// The word of a text.
     #[inline(never)]
-    pub(crate) fn load_text(&mut self, bytes: &[u8], d: Reg) -> Result<(), AllocError>
-        ensures kept { Keeps self.old.texts self.new.texts }
-        ensures frame { OnOk result
-            (self.new.frame ≡ with_register self.old.frame d (Some (Value.Text bytes.now))) }
-        ensures known { self.new.known ≡ self.old.known }
+    pub(crate) fn text_word(&mut self, bytes: &[u8]) -> Result<Word, AllocError>
+        ensures grows { Grows self.old self.new }
+        ensures word { IfOk result (λ word. IsWordOf self.new.texts word (Value.Text bytes.now)) }
     {
-        let number = self.texts.number(bytes)?;
-        self.put(d, Word::Text(number));
-        Ok(())
-    }
-
-    /// Puts a built-in variable into a register.
-    #[inline(always)]
-    pub(crate) fn load_built_in(&mut self, firing: &Firing, v: u8, d: Reg) -> Result<(), AllocError>
-        requires there { built_in_of firing.now v ≢ None }
-        requires known { Knows firing.now self.old.known }
-        ensures kept { Keeps self.old.texts self.new.texts }
-        ensures frame { OnOk result ((value : Value) → built_in_of firing.now v ≡ Some value
-            → self.new.frame ≡ with_register self.old.frame d (Some value)) }
-        ensures known { Knows firing.now self.new.known }
-    {
-        let word = self.built_in(firing, v)?;
-        self.put(d, word);
-        Ok(())
+        text_word(&mut self.texts, bytes)
     }
 
     /// The word of a built-in variable.
     #[inline(always)]
     pub(crate) fn built_in(&mut self, firing: &Firing, v: u8) -> Result<Word, AllocError>
-        requires there { built_in_of firing.now v ≢ None }
+        requires there { v < 9 }
         requires known { Knows firing.now self.old.known }
         ensures kept { Keeps self.old.texts self.new.texts }
         ensures frame { self.new.frame ≡ self.old.frame }
         ensures known { Knows firing.now self.new.known }
-        ensures word { IfOk result (λ word. (value : Value)
-            → built_in_of firing.now v ≡ Some value → IsWordOf self.new.texts word value) }
+        ensures word { IfOk result (λ word. IsWordOf self.new.texts word
+            (slice_index_or (built_ins firing.now) v (Value.Int 0))) }
     {
         built_in(&mut self.texts, &mut self.numbers, firing, v)
     }
 
-    /// The word of what a variable of the clause holds.
+    /// The word of what a variable holds.
     #[inline(always)]
-    pub(crate) fn local<M: Memory>(&mut self, memory: &mut M, x: Var) -> Result<Word, AllocError>
+    pub(crate) fn load<M: Memory>(
+        &mut self,
+        memory: &mut M,
+        variable: Variable,
+    ) -> Result<Word, AllocError>
         requires { M.is_over memory.old self.old.texts }
-        ensures kept { Keeps self.old.texts self.new.texts }
-        ensures frame { self.new.frame ≡ self.old.frame }
-        ensures known { self.new.known ≡ self.old.known }
+        ensures grows { Grows self.old self.new }
         ensures over { M.is_over memory.new self.new.texts }
         ensures same { M.holds memory.new self.new.texts ≡ M.holds memory.old self.old.texts }
         ensures beside { M.beside memory.new ≡ M.beside memory.old }
         ensures word { IfOk result (λ word. IsWordOf self.new.texts word
-            (local_in (M.holds memory.old self.old.texts) x)) }
+            (held_in (M.holds memory.old self.old.texts) variable self.old.frame.tuple)) }
     {
-        memory.load_local(&mut self.texts, x)
+        match variable {
+            Variable::Local(x) => memory.load_local(&mut self.texts, x),
+            Variable::Scalar(x) => memory.load_own(&mut self.texts, x, &Tuple::new()),
+            Variable::Element(x) => memory.load_own(&mut self.texts, x, &self.tuple),
+        }
     }
 
-    /// The word of what a variable of the thread holds without a key.
+    /// Stores a word in a variable.
     #[inline(always)]
-    pub(crate) fn scalar<M: Memory>(&mut self, memory: &mut M, x: Var) -> Result<Word, AllocError>
-        requires { M.is_over memory.old self.old.texts }
-        ensures kept { Keeps self.old.texts self.new.texts }
-        ensures frame { self.new.frame ≡ self.old.frame }
-        ensures known { self.new.known ≡ self.old.known }
-        ensures over { M.is_over memory.new self.new.texts }
-        ensures same { M.holds memory.new self.new.texts ≡ M.holds memory.old self.old.texts }
-        ensures beside { M.beside memory.new ≡ M.beside memory.old }
-        ensures word { IfOk result (λ word. IsWordOf self.new.texts word
-            (own_value (M.holds memory.old self.old.texts) x [])) }
-    {
-        memory.load_own(&mut self.texts, x, &Tuple::new())
-    }
-
-    /// The word of what a variable of the thread holds at the tuple.
-    #[inline(never)]
-    pub(crate) fn element<M: Memory>(&mut self, memory: &mut M, x: Var) -> Result<Word, AllocError>
-        requires { M.is_over memory.old self.old.texts }
-        ensures kept { Keeps self.old.texts self.new.texts }
-        ensures frame { self.new.frame ≡ self.old.frame }
-        ensures known { self.new.known ≡ self.old.known }
-        ensures over { M.is_over memory.new self.new.texts }
-        ensures same { M.holds memory.new self.new.texts ≡ M.holds memory.old self.old.texts }
-        ensures beside { M.beside memory.new ≡ M.beside memory.old }
-        ensures word { IfOk result (λ word. IsWordOf self.new.texts word
-            (own_value (M.holds memory.old self.old.texts) x self.old.frame.tuple)) }
-    {
-        memory.load_own(&mut self.texts, x, &self.tuple)
-    }
-
-    /// Stores a word in a variable of the clause.
-    #[inline(always)]
-    pub(crate) fn store_local<M: Memory>(
+    pub(crate) fn store<M: Memory>(
         &self,
         memory: &mut M,
-        x: Var,
+        variable: Variable,
         word: Word,
     ) -> Result<(), AllocError>
         requires over { M.is_over memory.old self.now.texts }
         requires within { IsWithin self.now.texts word }
-        requires kind { kind_of (value_of self.now.texts word) ≡ x.kind }
+        requires kind { kind_of (value_of self.now.texts word) ≡ kind_in variable }
         ensures over { M.is_over memory.new self.now.texts }
         ensures beside { M.beside memory.new ≡ M.beside memory.old }
         ensures ok { OnOk result (M.holds memory.new self.now.texts
-            ≡ set_local (M.holds memory.old self.now.texts) x (value_of self.now.texts word)) }
-        ensures err { OnErr result (M.holds memory.new self.now.texts
-            ≡ M.holds memory.old self.now.texts) }
-    {
-        memory.store_local(&self.texts, x, word)
-    }
-
-    /// Stores a word in a variable of the thread, without a key.
-    #[inline(always)]
-    pub(crate) fn store_scalar<M: Memory>(
-        &self,
-        memory: &mut M,
-        x: Var,
-        word: Word,
-    ) -> Result<(), AllocError>
-        requires over { M.is_over memory.old self.now.texts }
-        requires within { IsWithin self.now.texts word }
-        requires kind { kind_of (value_of self.now.texts word) ≡ x.kind }
-        ensures over { M.is_over memory.new self.now.texts }
-        ensures beside { M.beside memory.new ≡ M.beside memory.old }
-        ensures ok { OnOk result (M.holds memory.new self.now.texts
-            ≡ set_own (M.holds memory.old self.now.texts) x [] (value_of self.now.texts word)) }
-        ensures err { OnErr result (M.holds memory.new self.now.texts
-            ≡ M.holds memory.old self.now.texts) }
-    {
-        memory.store_own(&self.texts, x, &Tuple::new(), word)
-    }
-
-    /// Stores a word in a variable of the thread, at the tuple.
-    #[inline(never)]
-    pub(crate) fn store_element<M: Memory>(
-        &self,
-        memory: &mut M,
-        x: Var,
-        word: Word,
-    ) -> Result<(), AllocError>
-        requires over { M.is_over memory.old self.now.texts }
-        requires within { IsWithin self.now.texts word }
-        requires kind { kind_of (value_of self.now.texts word) ≡ x.kind }
-        ensures over { M.is_over memory.new self.now.texts }
-        ensures beside { M.beside memory.new ≡ M.beside memory.old }
-        ensures ok { OnOk result (M.holds memory.new self.now.texts
-            ≡ set_own (M.holds memory.old self.now.texts) x self.now.frame.tuple
+            ≡ set_in (M.holds memory.old self.now.texts) variable self.now.frame.tuple
             (value_of self.now.texts word)) }
         ensures err { OnErr result (M.holds memory.new self.now.texts
             ≡ M.holds memory.old self.now.texts) }
     {
-        memory.store_own(&self.texts, x, &self.tuple, word)
+        match variable {
+            Variable::Local(x) => memory.store_local(&self.texts, x, word),
+            Variable::Scalar(x) => memory.store_own(&self.texts, x, &Tuple::new(), word),
+            Variable::Element(x) => memory.store_own(&self.texts, x, &self.tuple, word),
+        }
     }
 }
 
@@ -438,7 +333,15 @@ fn join(alloc: Global, texts: &mut Texts, a: u64, b: u64) -> Result<Word, AllocE
         (Value.Text (joined_text (text_at texts.old a) (text_at texts.old b)))) }
 {
     let joined = join_text(alloc, texts.text(a), texts.text(b))?;
-    let number = texts.number(joined.as_bytes())?;
+    text_word(texts, joined.as_bytes())
+}
+
+/// The word of a text.
+pub(crate) fn text_word(texts: &mut Texts, bytes: &[u8]) -> Result<Word, AllocError>
+    ensures kept { Keeps texts.old texts.new }
+    ensures word { IfOk result (λ word. IsWordOf texts.new word (Value.Text bytes.now)) }
+{
+    let number = texts.number(bytes)?;
     Ok(Word::Text(number))
 }
 

@@ -85,3 +85,14 @@ pub trait Memory {
     ghost stays: { (m : Self) (old new : List (List ℕ)) → is_over m old → Keeps old new
         → is_over m new × (holds m new ≡ holds m old) };
 }
+
+/// A variable, as an instruction names it.
+#[derive(Clone, Copy, Debug)]
+pub(crate) enum Variable {
+    /// Of the clause.
+    Local(Var),
+    /// Of the thread, without a key.
+    Scalar(Var),
+    /// Of the thread, at the tuple.
+    Element(Var),
+}

@@ -1,6 +1,10 @@
 //! What follows an instruction.
 
+use crate::fault::MachineFault;
 use dif_validate::Reg;
+
+/// What a step leads to.
+pub(crate) type Step = Result<Onward, MachineFault>;
 
 /// If a run goes from an instruction, unless it faults.
 #[derive(Clone, Copy, Debug)]

@@ -9,7 +9,7 @@ ghost use Rattle.dif_machine.specs.Runs.{RunEnds};
 use crate::built_in::argument;
 use crate::fault::MachineFault;
 use crate::machine::Machine;
-use crate::memory::Memory;
+use crate::memory::{Memory, Variable};
 use crate::onward::Onward;
 use crate::stepping::step;
 use crate::tables::Tables;
@@ -83,11 +83,11 @@ pub fn run_on<M: Memory>(
         }
         Load::Argument(n) => Ok(Word::Int(argument(firing, n))),
         Load::Local(x) => {
-            let word = machine.local(memory, x)?;
+            let word = machine.load(memory, Variable::Local(x))?;
             Ok(word)
         }
         Load::Scalar(x) => {
-            let word = machine.scalar(memory, x)?;
+            let word = machine.load(memory, Variable::Scalar(x))?;
             Ok(word)
         }
         Load::Nothing => run_to_end(valid.difo(), firing, machine, memory),

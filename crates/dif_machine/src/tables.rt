@@ -8,6 +8,7 @@ ghost use Rattle.d_values.specs.Stores.{kind_of, lent_value};
 ghost use Rattle.dif_machine.specs.Machine.{IsWordOf, key_in, value_of};
 ghost use Rattle.dif_machine.specs.Vocabulary.{Kind};
 
+use crate::machine::text_word;
 use crate::memory::Memory;
 use d_values::{ClauseLocals, Key, KeyPart, Text, ThreadTable, Value, ValueRef, Var};
 use numbered::{Texts, Tuple, Word};
@@ -65,10 +66,7 @@ fn word_of(texts: &mut Texts, lent: ValueRef<'_>) -> Result<Word, AllocError>
 {
     match lent {
         ValueRef::Int(n) => Ok(Word::Int(n)),
-        ValueRef::Text(bytes) => {
-            let number = texts.number(bytes)?;
-            Ok(Word::Text(number))
-        }
+        ValueRef::Text(bytes) => text_word(texts, bytes),
     }
 }
 
@@ -100,11 +98,8 @@ fn key_of(alloc: Global, texts: &Texts, words: &[Word]) -> Result<Key, AllocErro
 fn part_of(alloc: Global, texts: &Texts, word: Word) -> Result<KeyPart, AllocError>
     ensures { IfOk result (λ part. part ≡ keys.part_of (value_of texts.now word)) }
 {
-    match word {
-        Word::Int(n) => Ok(KeyPart::Number(n.cast_signed())),
-        Word::Text(number) => {
-            let text = Text::from_slice(alloc, texts.text(number))?;
-            Ok(KeyPart::Name(text))
-        }
+    match value_in(alloc, texts, word)? {
+        Value::Int(n) => Ok(KeyPart::Number(n.cast_signed())),
+        Value::Text(text) => Ok(KeyPart::Name(text)),
     }
 }

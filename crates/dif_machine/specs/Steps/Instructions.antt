@@ -1,21 +1,65 @@
 -- What a call that executes an instruction needs, and what it does.
-use Rattle.std.specs.Prelude.{◌≡◌, ◌≢◌, ◌+◌, ℕ, List, Result}
+use Rattle.std.specs.Prelude.{◌≡◌, ◌≢◌, ◌+◌, ℕ, List, [], Result}
 use Rattle.numbered.specs.Texts.{Keeps}
-use Rattle.dif_machine.specs.Vocabulary.{Firing, Instr, MachineFault, Object, Variables}
+use Rattle.dif_machine.specs.Vocabulary.{Firing, Instr, KeyPart, Kind, Ldls, Ldtaa, Ldts}
+use Rattle.dif_machine.specs.Vocabulary.{MachineFault, Object, Reg, Stls, Sttaa, Stts, Value}
+use Rattle.dif_machine.specs.Vocabulary.{Variables, set_local, set_own}
 use Rattle.dif_machine.specs.Frames.{Frame, at_index}
 use Rattle.dif_machine.specs.Machine.{Knows, Seen}
 use Rattle.dif_machine.specs.Semantics.{Next, Stuck, act, step_of}
+use Rattle.dif_machine.specs.Sources.{local_in, own_value}
 use Rattle.dif_machine.specs.Steps.Semantics.{Stepped}
+use Rattle.dif_machine.specs.declared.memory.Variable.{Variable}
+use Rattle.dif_machine.specs.declared.memory.Variable.TheVariants.{Local, Scalar, Element}
 use Rattle.dif_machine.specs.declared.onward.Onward.{Onward}
 
--- before this next index, with some variables, the instruction isn't stuck
-abbrev pub CanExecuteFor : Instr → ℕ → Object → Firing → Frame → Type 0
-CanExecuteFor i next o f s =
-    (vars : Variables) × (index : ℕ) × (next ≡ index + 1)
-    × (act i o f (at_index s index) vars ≢ Stuck)
+-- ---- what the machine's own calls leave
 
+-- another frame, and all else as it was
+abbrev pub with_frame : Seen → Frame → Seen
+with_frame m s = record { texts = m.texts; frame = s; known = m.known }
+
+-- texts may be more, and all else is as it was
+pub record Grows (m n : Seen) : Type 0 where
+  pub kept : Keeps m.texts n.texts
+  pub frame : n.frame ≡ m.frame
+  pub known : n.known ≡ m.known
+
+-- ---- variables, as instructions name them
+
+abbrev pub load_of : Variable → Reg → Instr
+load_of (Local x) d = Ldls x d
+load_of (Scalar x) d = Ldts x d
+load_of (Element x) d = Ldtaa x d
+
+abbrev pub store_of : Variable → Reg → Instr
+store_of (Local x) a = Stls x a
+store_of (Scalar x) a = Stts x a
+store_of (Element x) a = Sttaa x a
+
+abbrev pub kind_in : Variable → Kind
+kind_in (Local x) = x.kind
+kind_in (Scalar x) = x.kind
+kind_in (Element x) = x.kind
+
+-- what it holds, at a tuple
+abbrev pub held_in : Variables → Variable → List KeyPart → Value
+held_in vars (Local x) tuple = local_in vars x
+held_in vars (Scalar x) tuple = own_value vars x []
+held_in vars (Element x) tuple = own_value vars x tuple
+
+abbrev pub set_in : Variables → Variable → List KeyPart → Value → Variables
+set_in vars (Local x) tuple value = set_local vars x value
+set_in vars (Scalar x) tuple value = set_own vars x [] value
+set_in vars (Element x) tuple value = set_own vars x tuple value
+
+-- ---- steps
+
+-- before this next index, with some variables, the instruction isn't stuck
 abbrev pub CanExecute : Instr → ℕ → Frame → Type 0
-CanExecute i next s = (o : Object) × (f : Firing) × CanExecuteFor i next o f s
+CanExecute i next s =
+    (o : Object) × (f : Firing) × (vars : Variables) × (index : ℕ) × (next ≡ index + 1)
+    × (act i o f (at_index s index) vars ≢ Stuck)
 
 -- whatever the variables, the call returns and leaves what the definition says, and texts keep
 -- their numbers
@@ -32,23 +76,25 @@ Executes i next m result n = (o : Object) (f : Firing) → ExecutesFor i next o 
 
 -- with the variables that are in a memory, the call returns and leaves what follows
 pub record LeadsTo {M : Type 0} (holds : M → List (List ℕ) → Variables)
-    (is_over : M → List (List ℕ) → Type 0) (f : Firing) (memory : M) (m : Seen)
-    (result : Result Onward MachineFault) (left : M) (n : Seen) (next : Next) : Type 0 where
+    (is_over : M → List (List ℕ) → Type 0) (beside : M → List ℕ → ℕ) (f : Firing) (memory : M)
+    (m : Seen) (result : Result Onward MachineFault) (left : M) (n : Seen) (next : Next)
+    : Type 0 where
   pub kept : Keeps m.texts n.texts
   pub known : Knows f m.known → Knows f n.known
   pub over : is_over left n.texts
+  pub others : beside left ≡ beside memory
   pub stepped : Stepped (holds memory m.texts) next result n.frame (holds left n.texts)
 
 abbrev pub ExecutesOn : {M : Type 0} → (M → List (List ℕ) → Variables)
-    → (M → List (List ℕ) → Type 0) → Instr → ℕ → Object → Firing → M → Seen
+    → (M → List (List ℕ) → Type 0) → (M → List ℕ → ℕ) → Instr → ℕ → Object → Firing → M → Seen
     → Result Onward MachineFault → M → Seen → Type 0
-ExecutesOn holds is_over i next o f memory m result left n =
-    (index : ℕ) → next ≡ index + 1 → LeadsTo holds is_over f memory m result left n
+ExecutesOn holds is_over beside i next o f memory m result left n =
+    (index : ℕ) → next ≡ index + 1 → LeadsTo holds is_over beside f memory m result left n
     (act i o f (at_index m.frame index) (holds memory m.texts))
 
 abbrev pub StepsOn : {M : Type 0} → (M → List (List ℕ) → Variables)
-    → (M → List (List ℕ) → Type 0) → Object → Firing → ℕ → M → Seen
+    → (M → List (List ℕ) → Type 0) → (M → List ℕ → ℕ) → Object → Firing → ℕ → M → Seen
     → Result Onward MachineFault → M → Seen → Type 0
-StepsOn holds is_over o f index memory m result left n =
-    LeadsTo holds is_over f memory m result left n
+StepsOn holds is_over beside o f index memory m result left n =
+    LeadsTo holds is_over beside f memory m result left n
     (step_of o f (at_index m.frame index) (holds memory m.texts))

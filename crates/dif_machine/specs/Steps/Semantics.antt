@@ -1,6 +1,6 @@
 -- What a call that makes one step returns and leaves.
 use Rattle.std.specs.Prelude.{◌≡◌, Some, Result, Ok, Err}
-use Rattle.dif_machine.specs.Vocabulary.{MachineFault, DivideByZero, Memory, Reg, at, Value}
+use Rattle.dif_machine.specs.Vocabulary.{MachineFault, DivideByZero, Memory, at, Value}
 use Rattle.dif_machine.specs.Vocabulary.{Variables}
 use Rattle.dif_machine.specs.Frames.{Frame, at_index}
 use Rattle.dif_machine.specs.Semantics.{Next, Ends, Faults}

@@ -4,19 +4,13 @@ ghost use Rattle.dif_machine.specs.Vocabulary.{Cmp, Tst, Scmp, Branch};
 ghost use Rattle.dif_machine.specs.Steps.Instructions.{CanExecute, Executes};
 
 use crate::comparing::{compare_numbers, compare_texts, holds};
-use crate::fault::MachineFault;
 use crate::machine::Machine;
-use crate::onward::Onward;
+use crate::onward::{Onward, Step};
 use dif_validate::{Condition, Reg};
 
 /// `cmp a, b`: compares two integers.
 #[inline(always)]
-pub(super) fn cmp(
-    machine: &mut Machine,
-    a: Reg,
-    b: Reg,
-    next: usize,
-) -> Result<Onward, MachineFault>
+pub(super) fn cmp(machine: &mut Machine, a: Reg, b: Reg, next: usize) -> Step
     requires { CanExecute (Cmp a b) next machine.old.frame }
     ensures { Executes (Cmp a b) next machine.old result machine.new }
 {
@@ -27,7 +21,7 @@ pub(super) fn cmp(
 
 /// `tst a`: compares an integer with 0.
 #[inline(always)]
-pub(super) fn tst(machine: &mut Machine, a: Reg, next: usize) -> Result<Onward, MachineFault>
+pub(super) fn tst(machine: &mut Machine, a: Reg, next: usize) -> Step
     requires { CanExecute (Tst a) next machine.old.frame }
     ensures { Executes (Tst a) next machine.old result machine.new }
 {
@@ -38,12 +32,7 @@ pub(super) fn tst(machine: &mut Machine, a: Reg, next: usize) -> Result<Onward, 
 
 /// `scmp a, b`: compares two texts.
 #[inline(never)]
-pub(super) fn scmp(
-    machine: &mut Machine,
-    a: Reg,
-    b: Reg,
-    next: usize,
-) -> Result<Onward, MachineFault>
+pub(super) fn scmp(machine: &mut Machine, a: Reg, b: Reg, next: usize) -> Step
     requires { CanExecute (Scmp a b) next machine.old.frame }
     ensures { Executes (Scmp a b) next machine.old result machine.new }
 {
@@ -54,12 +43,7 @@ pub(super) fn scmp(
 
 /// `bCOND to`: goes to an index where the last comparison is so.
 #[inline(always)]
-pub(super) fn branch(
-    machine: &mut Machine,
-    condition: Condition,
-    to: usize,
-    next: usize,
-) -> Result<Onward, MachineFault>
+pub(super) fn branch(machine: &mut Machine, condition: Condition, to: usize, next: usize) -> Step
     requires { CanExecute (Branch condition to) next machine.old.frame }
     ensures { Executes (Branch condition to) next machine.old result machine.new }
 {

@@ -1,17 +1,16 @@
 //! Instructions on the tuple.
 
 ghost use Rattle.std.specs.Prelude.{◌<◌, length};
-ghost use Rattle.dif_machine.specs.Vocabulary.{Pushtr, Pushtv, Flushts, Call};
+ghost use Rattle.dif_machine.specs.Vocabulary.{Pushtr, Pushtv, Call};
 ghost use Rattle.dif_machine.specs.Steps.Instructions.{CanExecute, Executes};
 
-use crate::fault::MachineFault;
 use crate::machine::Machine;
-use crate::onward::Onward;
+use crate::onward::{Onward, Step};
 use dif_validate::{Function, Reg};
 
 /// `pushtr a`: adds a text.
 #[inline(always)]
-pub(super) fn pushtr(machine: &mut Machine, a: Reg, next: usize) -> Result<Onward, MachineFault>
+pub(super) fn pushtr(machine: &mut Machine, a: Reg, next: usize) -> Step
     requires can { CanExecute (Pushtr a) next machine.old.frame }
     requires room { length machine.old.frame.tuple < 8 }
     ensures { Executes (Pushtr a) next machine.old result machine.new }
@@ -23,7 +22,7 @@ pub(super) fn pushtr(machine: &mut Machine, a: Reg, next: usize) -> Result<Onwar
 
 /// `pushtv a`: adds an integer.
 #[inline(always)]
-pub(super) fn pushtv(machine: &mut Machine, a: Reg, next: usize) -> Result<Onward, MachineFault>
+pub(super) fn pushtv(machine: &mut Machine, a: Reg, next: usize) -> Step
     requires can { CanExecute (Pushtv a) next machine.old.frame }
     requires room { length machine.old.frame.tuple < 8 }
     ensures { Executes (Pushtv a) next machine.old result machine.new }
@@ -33,26 +32,13 @@ pub(super) fn pushtv(machine: &mut Machine, a: Reg, next: usize) -> Result<Onwar
     Ok(Onward::Goes(next))
 }
 
-/// `flushts`: empties the tuple.
-#[inline(always)]
-pub(super) fn flushts(machine: &mut Machine, next: usize) -> Result<Onward, MachineFault>
-    ensures { Executes Flushts next machine.old result machine.new }
-{
-    machine.flush();
-    Ok(Onward::Goes(next))
-}
-
 /// `call f, d`: what a function makes of the tuple.
 #[inline(always)]
-pub(super) fn call(
-    machine: &mut Machine,
-    function: Function,
-    d: Reg,
-    next: usize,
-) -> Result<Onward, MachineFault>
+pub(super) fn call(machine: &mut Machine, function: Function, d: Reg, next: usize) -> Step
     requires { CanExecute (Call function d) next machine.old.frame }
     ensures { Executes (Call function d) next machine.old result machine.new }
 {
-    machine.call(function, d)?;
+    let word = machine.call(function)?;
+    machine.put(d, word);
     Ok(Onward::Goes(next))
 }

@@ -1,7 +1,6 @@
-use Rattle.std.specs.Prelude.{◌<◌, Some, IfSome, length}
-use Rattle.std.proofs.Common.{ap, sym, ◌∙◌}
+use Rattle.std.specs.Prelude.{◌<◌, ◌-◌, IfSome, length}
+use Rattle.std.proofs.Common.{sym, ◌∙◌}
 use Rattle.std.proofs.lemmas.List.Elements.{All-set}
-use Rattle.dif_machine.specs.Vocabulary.{Text}
 use Rattle.dif_machine.proofs.Knowing.{known_more, known_still}
 use Rattle.dif_machine.proofs.Holding.{number_text, number_within, numbers_kept}
 use Rattle.dif_machine.proofs.built_in.find.Goals as goal
@@ -12,7 +11,7 @@ returns-in_err-number-clause-known c =
 
 pub returns-clause-known : goal.returns-clause-known
 returns-clause-known c =
-    known_more c.args.firing.now c.args.texts.now c.number.new.self c.number.ensures.kept c.args.numbers.now c.requires.numbers c.requires.known c.args.v c.in_ok-number.number c.text.result.now c.requires.text.0 c.text.ensures.is c.in_ok-number.ensures.number
+    known_more c.args.firing.now c.args.texts.now c.number.new.self c.number.ensures.kept c.args.numbers.now c.requires.numbers c.requires.known (c.args.v - 4) c.in_ok-number.number c.text.result.now c.text.ensures c.in_ok-number.ensures.number
 
 pub returns-clause-numbers : goal.returns-clause-numbers
 returns-clause-numbers c =
@@ -22,7 +21,7 @@ returns-clause-numbers c =
 
 pub returns-clause-number : goal.returns-clause-number
 returns-clause-number c =
-    c.text.ensures.is ∙ ap (λ b. Some (Text b)) (sym (number_text c.number.new.self _ _ c.in_ok-number.ensures.number))
+    c.text.ensures ∙ sym (number_text c.number.new.self _ _ c.in_ok-number.ensures.number)
 
 pub returns-clause-within : goal.returns-clause-within
 returns-clause-within c = number_within c.number.new.self _ _ c.in_ok-number.ensures.number

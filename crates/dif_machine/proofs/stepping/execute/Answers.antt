@@ -1,162 +1,183 @@
-use Rattle.std.proofs.Common.{refl, sym, ap}
-use Rattle.dif_machine.specs.Vocabulary.{object_of}
-use Rattle.dif_machine.specs.Frames.{at_index}
-use Rattle.dif_machine.specs.Semantics.{Goes}
-use Rattle.dif_machine.proofs.Acting.{number_fits, text_fits}
-use Rattle.dif_machine.proofs.Executing.{built_in_there, can, executed, number_there, on_memory, one_array}
-use Rattle.dif_machine.proofs.Executing.{register_there, runs_as, text_there}
+use Rattle.std.specs.Prelude.{◌≡◌, ◌≢◌, ℕ, Result, slice_get}
+use Rattle.std.proofs.Common.{refl, sym, ap, subst, ◌∙◌}
+use Rattle.dif_machine.specs.Frames.{Frame, at_index}
+use Rattle.dif_machine.specs.Machine.{Seen}
+use Rattle.dif_machine.specs.Semantics.{Ends, Goes, Stuck, act, on, puts}
+use Rattle.dif_machine.specs.Sources.{built_ins}
+use Rattle.dif_machine.specs.Steps.Instructions.{CanExecute, ExecutesFor, ExecutesOn}
+use Rattle.dif_machine.specs.Vocabulary.{Firing, Flushts, Instr, Int, Ldga, MachineFault, Object, Reg, Text, Variables, object_of}
+use Rattle.dif_machine.specs.declared.onward.Onward.{Onward}
+use Rattle.dif_machine.proofs.Acting.{number_fits, only_array, ret_there, text_fits}
+use Rattle.dif_machine.proofs.Executing.{executed, goes, inside, on_memory, there}
 use Rattle.dif_machine.proofs.Holding.{keeps_refl}
+use Rattle.dif_machine.proofs.stepping.execute.Given.{Over}
+use Rattle.dif_machine.proofs.stepping.execute.Goals.{Start}
 use Rattle.dif_machine.proofs.stepping.execute.Goals as goal
 
-pub alu-requires : goal.alu-requires
-alu-requires g c = can (object_of c.args.difo.now) c.args.firing.now c.args.machine.now (g.M.Memory.holds c.args.memory.now c.args.machine.now.texts) c.requires.runs.0 c.args.next _ _ c.requires.runs.1 c.in-Alu.is c.requires.runs.2
+module _ (g : Over) (c : Start g) where
+  abbrev o : Object
+  o = object_of c.args.difo.now
 
-pub returns-in-Alu-clause-does : goal.returns-in-Alu-clause-does
-returns-in-Alu-clause-does g c =
-    executed g.M.Memory.holds g.M.Memory.is_over (object_of c.args.difo.now) c.args.firing.now c.args.memory.now c.args.machine.now c.args.next g.met.M.Memory.stays _ _ c.in-Alu.is _ _ c.requires.over (c.alu.ensures (object_of c.args.difo.now) c.args.firing.now)
+  abbrev f : Firing
+  f = c.args.firing.now
+
+  abbrev vars : Variables
+  vars = g.M.Memory.holds c.args.memory.now c.args.machine.now.texts
+
+  abbrev frame : Frame
+  frame = at_index c.args.machine.now.frame c.requires.runs.0
+
+  runs : (i : Instr) → c.args.instr.now ≡ i → act i o f frame vars ≢ Stuck
+  runs i is = subst (λ i. act i o f frame vars ≢ Stuck) is c.requires.runs.2
+
+  can : (i : Instr) → c.args.instr.now ≡ i → CanExecute i c.args.next c.args.machine.now.frame
+  can i is = (o, f, vars, c.requires.runs.0, c.requires.runs.1, runs i is)
+
+  variable_was : (i : Instr) → c.args.instr.now ≡ i → (result : Result Onward MachineFault) (left : g.row.M.Denot) (n : Seen)
+      → ((o : Object) (f : Firing) → ExecutesOn g.M.Memory.holds g.M.Memory.is_over g.M.Memory.beside i c.args.next o f c.args.memory.now c.args.machine.now result left n)
+      → ExecutesOn g.M.Memory.holds g.M.Memory.is_over g.M.Memory.beside c.args.instr.now c.args.next o f c.args.memory.now c.args.machine.now result left n
+  variable_was i is result left n e = on_memory g.M.Memory.holds g.M.Memory.is_over g.M.Memory.beside o f c.args.memory.now c.args.machine.now c.args.next c.args.instr.now i is result left n (e o f)
+
+  one_array : (v : ℕ) (a d : Reg) → c.args.instr.now ≡ Ldga v a d → c.args.instr.now ≡ Ldga 0 a d
+  one_array v a d is = is ∙ ap (λ v. Ldga v a d) (only_array o f frame vars v a d (runs (Ldga v a d) is))
+
+  was : (i : Instr) → c.args.instr.now ≡ i → (result : Result Onward MachineFault) (n : Seen) → ExecutesFor i c.args.next o f c.args.machine.now result n
+      → ExecutesOn g.M.Memory.holds g.M.Memory.is_over g.M.Memory.beside c.args.instr.now c.args.next o f c.args.memory.now c.args.machine.now result c.args.memory.now n
+  was i is result n e =
+      on_memory g.M.Memory.holds g.M.Memory.is_over g.M.Memory.beside o f c.args.memory.now c.args.machine.now c.args.next c.args.instr.now i is result c.args.memory.now n
+      (executed g.M.Memory.holds g.M.Memory.is_over g.M.Memory.beside o f c.args.memory.now c.args.machine.now g.met.M.Memory.stays c.args.next i result n c.requires.over e)
+
+pub alu-requires : goal.alu-requires
+alu-requires g c = can g (goal.at.alu-requires g c).Start _ c.in-Alu.is
+
+pub returns-in-Alu : goal.returns-in-Alu
+returns-in-Alu g c = was g (goal.at.returns-in-Alu g c).Start _ c.in-Alu.is _ _ (c.alu.ensures _ _)
 
 pub not-requires : goal.not-requires
-not-requires g c = can (object_of c.args.difo.now) c.args.firing.now c.args.machine.now (g.M.Memory.holds c.args.memory.now c.args.machine.now.texts) c.requires.runs.0 c.args.next _ _ c.requires.runs.1 c.in-Not.is c.requires.runs.2
+not-requires g c = can g (goal.at.not-requires g c).Start _ c.in-Not.is
 
-pub returns-in-Not-clause-does : goal.returns-in-Not-clause-does
-returns-in-Not-clause-does g c =
-    executed g.M.Memory.holds g.M.Memory.is_over (object_of c.args.difo.now) c.args.firing.now c.args.memory.now c.args.machine.now c.args.next g.met.M.Memory.stays _ _ c.in-Not.is _ _ c.requires.over (c.not.ensures (object_of c.args.difo.now) c.args.firing.now)
+pub returns-in-Not : goal.returns-in-Not
+returns-in-Not g c = was g (goal.at.returns-in-Not g c).Start _ c.in-Not.is _ _ (c.not.ensures _ _)
 
 pub mov-requires : goal.mov-requires
-mov-requires g c = can (object_of c.args.difo.now) c.args.firing.now c.args.machine.now (g.M.Memory.holds c.args.memory.now c.args.machine.now.texts) c.requires.runs.0 c.args.next _ _ c.requires.runs.1 c.in-Mov.is c.requires.runs.2
+mov-requires g c = can g (goal.at.mov-requires g c).Start _ c.in-Mov.is
 
-pub returns-in-Mov-clause-does : goal.returns-in-Mov-clause-does
-returns-in-Mov-clause-does g c =
-    executed g.M.Memory.holds g.M.Memory.is_over (object_of c.args.difo.now) c.args.firing.now c.args.memory.now c.args.machine.now c.args.next g.met.M.Memory.stays _ _ c.in-Mov.is _ _ c.requires.over (c.mov.ensures (object_of c.args.difo.now) c.args.firing.now)
+pub returns-in-Mov : goal.returns-in-Mov
+returns-in-Mov g c = was g (goal.at.returns-in-Mov g c).Start _ c.in-Mov.is _ _ (c.mov.ensures _ _)
 
 pub cmp-requires : goal.cmp-requires
-cmp-requires g c = can (object_of c.args.difo.now) c.args.firing.now c.args.machine.now (g.M.Memory.holds c.args.memory.now c.args.machine.now.texts) c.requires.runs.0 c.args.next _ _ c.requires.runs.1 c.in-Cmp.is c.requires.runs.2
+cmp-requires g c = can g (goal.at.cmp-requires g c).Start _ c.in-Cmp.is
 
-pub returns-in-Cmp-clause-does : goal.returns-in-Cmp-clause-does
-returns-in-Cmp-clause-does g c =
-    executed g.M.Memory.holds g.M.Memory.is_over (object_of c.args.difo.now) c.args.firing.now c.args.memory.now c.args.machine.now c.args.next g.met.M.Memory.stays _ _ c.in-Cmp.is _ _ c.requires.over (c.cmp.ensures (object_of c.args.difo.now) c.args.firing.now)
+pub returns-in-Cmp : goal.returns-in-Cmp
+returns-in-Cmp g c = was g (goal.at.returns-in-Cmp g c).Start _ c.in-Cmp.is _ _ (c.cmp.ensures _ _)
 
 pub tst-requires : goal.tst-requires
-tst-requires g c = can (object_of c.args.difo.now) c.args.firing.now c.args.machine.now (g.M.Memory.holds c.args.memory.now c.args.machine.now.texts) c.requires.runs.0 c.args.next _ _ c.requires.runs.1 c.in-Tst.is c.requires.runs.2
+tst-requires g c = can g (goal.at.tst-requires g c).Start _ c.in-Tst.is
 
-pub returns-in-Tst-clause-does : goal.returns-in-Tst-clause-does
-returns-in-Tst-clause-does g c =
-    executed g.M.Memory.holds g.M.Memory.is_over (object_of c.args.difo.now) c.args.firing.now c.args.memory.now c.args.machine.now c.args.next g.met.M.Memory.stays _ _ c.in-Tst.is _ _ c.requires.over (c.tst.ensures (object_of c.args.difo.now) c.args.firing.now)
+pub returns-in-Tst : goal.returns-in-Tst
+returns-in-Tst g c = was g (goal.at.returns-in-Tst g c).Start _ c.in-Tst.is _ _ (c.tst.ensures _ _)
 
 pub scmp-requires : goal.scmp-requires
-scmp-requires g c = can (object_of c.args.difo.now) c.args.firing.now c.args.machine.now (g.M.Memory.holds c.args.memory.now c.args.machine.now.texts) c.requires.runs.0 c.args.next _ _ c.requires.runs.1 c.in-Scmp.is c.requires.runs.2
+scmp-requires g c = can g (goal.at.scmp-requires g c).Start _ c.in-Scmp.is
 
-pub returns-in-Scmp-clause-does : goal.returns-in-Scmp-clause-does
-returns-in-Scmp-clause-does g c =
-    executed g.M.Memory.holds g.M.Memory.is_over (object_of c.args.difo.now) c.args.firing.now c.args.memory.now c.args.machine.now c.args.next g.met.M.Memory.stays _ _ c.in-Scmp.is _ _ c.requires.over (c.scmp.ensures (object_of c.args.difo.now) c.args.firing.now)
-
-pub returns-in-Ba-clause-does : goal.returns-in-Ba-clause-does
-returns-in-Ba-clause-does g c =
-    executed g.M.Memory.holds g.M.Memory.is_over (object_of c.args.difo.now) c.args.firing.now c.args.memory.now c.args.machine.now c.args.next g.met.M.Memory.stays _ _ c.in-Ba.is _ _ c.requires.over (record { kept = keeps_refl _; known = λ k. k; stepped = λ index is_next vars. refl })
+pub returns-in-Scmp : goal.returns-in-Scmp
+returns-in-Scmp g c = was g (goal.at.returns-in-Scmp g c).Start _ c.in-Scmp.is _ _ (c.scmp.ensures _ _)
 
 pub branch-machine-requires : goal.branch-machine-requires
-branch-machine-requires g c = can (object_of c.args.difo.now) c.args.firing.now c.args.machine.now (g.M.Memory.holds c.args.memory.now c.args.machine.now.texts) c.requires.runs.0 c.args.next _ _ c.requires.runs.1 c.in-Branch.is c.requires.runs.2
+branch-machine-requires g c = can g (goal.at.branch-machine-requires g c).Start _ c.in-Branch.is
 
-pub returns-in-Branch-clause-does : goal.returns-in-Branch-clause-does
-returns-in-Branch-clause-does g c =
-    executed g.M.Memory.holds g.M.Memory.is_over (object_of c.args.difo.now) c.args.firing.now c.args.memory.now c.args.machine.now c.args.next g.met.M.Memory.stays _ _ c.in-Branch.is _ _ c.requires.over (c.branch-machine.ensures (object_of c.args.difo.now) c.args.firing.now)
+pub returns-in-Branch : goal.returns-in-Branch
+returns-in-Branch g c = was g (goal.at.returns-in-Branch g c).Start _ c.in-Branch.is _ _ (c.branch-machine.ensures _ _)
 
 pub call-requires : goal.call-requires
-call-requires g c = can (object_of c.args.difo.now) c.args.firing.now c.args.machine.now (g.M.Memory.holds c.args.memory.now c.args.machine.now.texts) c.requires.runs.0 c.args.next _ _ c.requires.runs.1 c.in-Call.is c.requires.runs.2
+call-requires g c = can g (goal.at.call-requires g c).Start _ c.in-Call.is
 
-pub returns-in-Call-clause-does : goal.returns-in-Call-clause-does
-returns-in-Call-clause-does g c =
-    executed g.M.Memory.holds g.M.Memory.is_over (object_of c.args.difo.now) c.args.firing.now c.args.memory.now c.args.machine.now c.args.next g.met.M.Memory.stays _ _ c.in-Call.is _ _ c.requires.over (c.call.ensures (object_of c.args.difo.now) c.args.firing.now)
+pub returns-in-Call : goal.returns-in-Call
+returns-in-Call g c = was g (goal.at.returns-in-Call g c).Start _ c.in-Call.is _ _ (c.call.ensures _ _)
 
-pub ret-requires : goal.ret-requires
-ret-requires g c = register_there (object_of c.args.difo.now) c.args.firing.now c.args.machine.now (g.M.Memory.holds c.args.memory.now c.args.machine.now.texts) c.requires.runs.0 _ (runs_as (object_of c.args.difo.now) c.args.firing.now c.args.machine.now (g.M.Memory.holds c.args.memory.now c.args.machine.now.texts) c.requires.runs.0 _ _ c.in-Ret.is c.requires.runs.2)
+pub returns-in-Ba : goal.returns-in-Ba
+returns-in-Ba g c = was g (goal.at.returns-in-Ba g c).Start _ c.in-Ba.is _ _ (record { kept = keeps_refl _; known = λ k. k; stepped = λ index is_next vars. refl })
 
-pub returns-in-Ret-clause-does : goal.returns-in-Ret-clause-does
-returns-in-Ret-clause-does g c =
-    executed g.M.Memory.holds g.M.Memory.is_over (object_of c.args.difo.now) c.args.firing.now c.args.memory.now c.args.machine.now c.args.next g.met.M.Memory.stays _ _ c.in-Ret.is _ _ c.requires.over (c.ret.ensures c.args.next (object_of c.args.difo.now) c.args.firing.now)
+pub returns-in-Nop : goal.returns-in-Nop
+returns-in-Nop g c = was g (goal.at.returns-in-Nop g c).Start _ c.in-Nop.is _ _ (record { kept = keeps_refl _; known = λ k. k; stepped = λ index is_next vars. sym (λ j. Goes (at_index c.args.machine.now.frame (is_next j)) vars) })
 
-pub returns-in-Flushts-clause-does : goal.returns-in-Flushts-clause-does
-returns-in-Flushts-clause-does g c =
-    executed g.M.Memory.holds g.M.Memory.is_over (object_of c.args.difo.now) c.args.firing.now c.args.memory.now c.args.machine.now c.args.next g.met.M.Memory.stays _ _ c.in-Flushts.is _ _ c.requires.over (c.flushts.ensures (object_of c.args.difo.now) c.args.firing.now)
+pub returns-in-Flushts : goal.returns-in-Flushts
+returns-in-Flushts g c = was g (goal.at.returns-in-Flushts g c).Start _ c.in-Flushts.is _ _ (goes Flushts _ _ _ _ _ _ c.flush.ensures (λ index is_next vars. refl))
 
-pub returns-in-Nop-clause-does : goal.returns-in-Nop-clause-does
-returns-in-Nop-clause-does g c =
-    executed g.M.Memory.holds g.M.Memory.is_over (object_of c.args.difo.now) c.args.firing.now c.args.memory.now c.args.machine.now c.args.next g.met.M.Memory.stays _ _ c.in-Nop.is _ _ c.requires.over (record { kept = keeps_refl _; known = λ k. k; stepped = λ index is_next vars. ap (λ p. Goes (at_index c.args.machine.now.frame p) vars) (sym is_next) })
+pub returns-in-Ret : goal.returns-in-Ret
+returns-in-Ret g c = 
+    let s = (goal.at.returns-in-Ret g c).Start in
+    let value = ret_there (o g s) (f g s) (frame g s) (vars g s) c.in-Ret.a (runs g s _ c.in-Ret.is) in
+    was g s _ c.in-Ret.is _ _ (record { kept = keeps_refl _; known = λ k. k; stepped = λ index is_next vars. (value.0, value.1, ap (λ x. on x (λ value. Ends value vars)) value.1) })
 
 pub pushtr-requires : goal.pushtr-requires
-pushtr-requires g c = record { can = can (object_of c.args.difo.now) c.args.firing.now c.args.machine.now (g.M.Memory.holds c.args.memory.now c.args.machine.now.texts) c.requires.runs.0 c.args.next _ _ c.requires.runs.1 c.in-Pushtr.is c.requires.runs.2; room = text_fits (object_of c.args.difo.now) c.args.firing.now (at_index c.args.machine.now.frame c.requires.runs.0) (g.M.Memory.holds c.args.memory.now c.args.machine.now.texts) _ (runs_as (object_of c.args.difo.now) c.args.firing.now c.args.machine.now (g.M.Memory.holds c.args.memory.now c.args.machine.now.texts) c.requires.runs.0 _ _ c.in-Pushtr.is c.requires.runs.2) }
+pushtr-requires g c = let s = (goal.at.pushtr-requires g c).Start in record { can = can g s _ c.in-Pushtr.is; room = text_fits (o g s) (f g s) (frame g s) (vars g s) _ (runs g s _ c.in-Pushtr.is) }
 
-pub returns-in-Pushtr-clause-does : goal.returns-in-Pushtr-clause-does
-returns-in-Pushtr-clause-does g c =
-    executed g.M.Memory.holds g.M.Memory.is_over (object_of c.args.difo.now) c.args.firing.now c.args.memory.now c.args.machine.now c.args.next g.met.M.Memory.stays _ _ c.in-Pushtr.is _ _ c.requires.over (c.pushtr.ensures (object_of c.args.difo.now) c.args.firing.now)
+pub returns-in-Pushtr : goal.returns-in-Pushtr
+returns-in-Pushtr g c = was g (goal.at.returns-in-Pushtr g c).Start _ c.in-Pushtr.is _ _ (c.pushtr.ensures _ _)
 
 pub pushtv-requires : goal.pushtv-requires
-pushtv-requires g c = record { can = can (object_of c.args.difo.now) c.args.firing.now c.args.machine.now (g.M.Memory.holds c.args.memory.now c.args.machine.now.texts) c.requires.runs.0 c.args.next _ _ c.requires.runs.1 c.in-Pushtv.is c.requires.runs.2; room = number_fits (object_of c.args.difo.now) c.args.firing.now (at_index c.args.machine.now.frame c.requires.runs.0) (g.M.Memory.holds c.args.memory.now c.args.machine.now.texts) _ (runs_as (object_of c.args.difo.now) c.args.firing.now c.args.machine.now (g.M.Memory.holds c.args.memory.now c.args.machine.now.texts) c.requires.runs.0 _ _ c.in-Pushtv.is c.requires.runs.2) }
+pushtv-requires g c = let s = (goal.at.pushtv-requires g c).Start in record { can = can g s _ c.in-Pushtv.is; room = number_fits (o g s) (f g s) (frame g s) (vars g s) _ (runs g s _ c.in-Pushtv.is) }
 
-pub returns-in-Pushtv-clause-does : goal.returns-in-Pushtv-clause-does
-returns-in-Pushtv-clause-does g c =
-    executed g.M.Memory.holds g.M.Memory.is_over (object_of c.args.difo.now) c.args.firing.now c.args.memory.now c.args.machine.now c.args.next g.met.M.Memory.stays _ _ c.in-Pushtv.is _ _ c.requires.over (c.pushtv.ensures (object_of c.args.difo.now) c.args.firing.now)
+pub returns-in-Pushtv : goal.returns-in-Pushtv
+returns-in-Pushtv g c = was g (goal.at.returns-in-Pushtv g c).Start _ c.in-Pushtv.is _ _ (c.pushtv.ensures _ _)
 
 pub setx-requires : goal.setx-requires
-setx-requires g c = record { inside = number_there (object_of c.args.difo.now) c.args.firing.now c.args.machine.now (g.M.Memory.holds c.args.memory.now c.args.machine.now.texts) c.requires.runs.0 _ _ (runs_as (object_of c.args.difo.now) c.args.firing.now c.args.machine.now (g.M.Memory.holds c.args.memory.now c.args.machine.now.texts) c.requires.runs.0 _ _ c.in-Setx.is c.requires.runs.2) }
+setx-requires g c = let s = (goal.at.setx-requires g c).Start in record { inside = there (slice_get (o g s).numbers c.in-Setx.i) (λ n. puts (frame g s) c.in-Setx.d (Int n) (vars g s)) (runs g s _ c.in-Setx.is) }
 
-pub returns-in-Setx-clause-does : goal.returns-in-Setx-clause-does
-returns-in-Setx-clause-does g c =
-    executed g.M.Memory.holds g.M.Memory.is_over (object_of c.args.difo.now) c.args.firing.now c.args.memory.now c.args.machine.now c.args.next g.met.M.Memory.stays _ _ c.in-Setx.is _ _ c.requires.over (c.setx.ensures c.args.firing.now)
+pub returns-in-Setx : goal.returns-in-Setx
+returns-in-Setx g c = was g (goal.at.returns-in-Setx g c).Start _ c.in-Setx.is _ _ (c.setx.ensures _)
 
 pub sets-requires : goal.sets-requires
-sets-requires g c = record { inside = text_there (object_of c.args.difo.now) c.args.firing.now c.args.machine.now (g.M.Memory.holds c.args.memory.now c.args.machine.now.texts) c.requires.runs.0 _ _ (runs_as (object_of c.args.difo.now) c.args.firing.now c.args.machine.now (g.M.Memory.holds c.args.memory.now c.args.machine.now.texts) c.requires.runs.0 _ _ c.in-Sets.is c.requires.runs.2) }
+sets-requires g c = let s = (goal.at.sets-requires g c).Start in record { inside = there (slice_get (o g s).texts c.in-Sets.i) (λ bytes. puts (frame g s) c.in-Sets.d (Text bytes) (vars g s)) (runs g s _ c.in-Sets.is) }
 
-pub returns-in-Sets-clause-does : goal.returns-in-Sets-clause-does
-returns-in-Sets-clause-does g c =
-    executed g.M.Memory.holds g.M.Memory.is_over (object_of c.args.difo.now) c.args.firing.now c.args.memory.now c.args.machine.now c.args.next g.met.M.Memory.stays _ _ c.in-Sets.is _ _ c.requires.over (c.sets.ensures c.args.firing.now)
+pub returns-in-Sets : goal.returns-in-Sets
+returns-in-Sets g c = was g (goal.at.returns-in-Sets g c).Start _ c.in-Sets.is _ _ (c.sets.ensures _)
 
 pub ldgs-requires : goal.ldgs-requires
-ldgs-requires g c = record { known = c.requires.known; there = built_in_there (object_of c.args.difo.now) c.args.firing.now c.args.machine.now (g.M.Memory.holds c.args.memory.now c.args.machine.now.texts) c.requires.runs.0 _ _ (runs_as (object_of c.args.difo.now) c.args.firing.now c.args.machine.now (g.M.Memory.holds c.args.memory.now c.args.machine.now.texts) c.requires.runs.0 _ _ c.in-Ldgs.is c.requires.runs.2) }
+ldgs-requires g c = let s = (goal.at.ldgs-requires g c).Start in record { known = c.requires.known; there = inside (built_ins (f g s)) c.in-Ldgs.v (λ value. puts (frame g s) c.in-Ldgs.d value (vars g s)) (runs g s _ c.in-Ldgs.is) }
 
-pub returns-in-Ldgs-clause-does : goal.returns-in-Ldgs-clause-does
-returns-in-Ldgs-clause-does g c =
-    executed g.M.Memory.holds g.M.Memory.is_over (object_of c.args.difo.now) c.args.firing.now c.args.memory.now c.args.machine.now c.args.next g.met.M.Memory.stays _ _ c.in-Ldgs.is _ _ c.requires.over (c.ldgs.ensures (object_of c.args.difo.now))
+pub returns-in-Ldgs : goal.returns-in-Ldgs
+returns-in-Ldgs g c = was g (goal.at.returns-in-Ldgs g c).Start _ c.in-Ldgs.is _ _ (c.ldgs.ensures _)
 
 pub ldga-requires : goal.ldga-requires
-ldga-requires g c = can (object_of c.args.difo.now) c.args.firing.now c.args.machine.now (g.M.Memory.holds c.args.memory.now c.args.machine.now.texts) c.requires.runs.0 c.args.next _ _ c.requires.runs.1 (one_array (object_of c.args.difo.now) c.args.firing.now c.args.machine.now (g.M.Memory.holds c.args.memory.now c.args.machine.now.texts) c.requires.runs.0 _ _ _ _ c.in-Ldga.is c.requires.runs.2) c.requires.runs.2
+ldga-requires g c = let s = (goal.at.ldga-requires g c).Start in can g s _ (one_array g s _ _ _ c.in-Ldga.is)
 
-pub returns-in-Ldga-clause-does : goal.returns-in-Ldga-clause-does
-returns-in-Ldga-clause-does g c =
-    executed g.M.Memory.holds g.M.Memory.is_over (object_of c.args.difo.now) c.args.firing.now c.args.memory.now c.args.machine.now c.args.next g.met.M.Memory.stays _ _ (one_array (object_of c.args.difo.now) c.args.firing.now c.args.machine.now (g.M.Memory.holds c.args.memory.now c.args.machine.now.texts) c.requires.runs.0 _ _ _ _ c.in-Ldga.is c.requires.runs.2) _ _ c.requires.over (c.ldga.ensures (object_of c.args.difo.now))
+pub returns-in-Ldga : goal.returns-in-Ldga
+returns-in-Ldga g c = let s = (goal.at.returns-in-Ldga g c).Start in was g s _ (one_array g s _ _ _ c.in-Ldga.is) _ _ (c.ldga.ensures _)
 
-pub returns-in-Ldts-clause-does : goal.returns-in-Ldts-clause-does
-returns-in-Ldts-clause-does g c =
-    on_memory g.M.Memory.holds g.M.Memory.is_over (object_of c.args.difo.now) c.args.firing.now c.args.memory.now c.args.machine.now c.args.next _ _ c.in-Ldts.is _ _ _ (c.ldts.ensures.does (object_of c.args.difo.now) c.args.firing.now)
+pub load-requires : goal.load-requires
+load-requires g c = record { can = can g (goal.at.load-requires g c).Start _ c.in-Ldts.is; over = c.requires.over }
 
-pub stts-requires : goal.stts-requires
-stts-requires g c = record { can = can (object_of c.args.difo.now) c.args.firing.now c.args.machine.now (g.M.Memory.holds c.args.memory.now c.args.machine.now.texts) c.requires.runs.0 c.args.next _ _ c.requires.runs.1 c.in-Stts.is c.requires.runs.2; over = c.requires.over }
+pub returns-in-Ldts : goal.returns-in-Ldts
+returns-in-Ldts g c = variable_was g (goal.at.returns-in-Ldts g c).Start _ c.in-Ldts.is _ _ _ c.load.ensures
 
-pub returns-in-Stts-clause-does : goal.returns-in-Stts-clause-does
-returns-in-Stts-clause-does g c =
-    on_memory g.M.Memory.holds g.M.Memory.is_over (object_of c.args.difo.now) c.args.firing.now c.args.memory.now c.args.machine.now c.args.next _ _ c.in-Stts.is _ _ _ (c.stts.ensures.does (object_of c.args.difo.now) c.args.firing.now)
+pub store-requires : goal.store-requires
+store-requires g c = record { can = can g (goal.at.store-requires g c).Start _ c.in-Stts.is; over = c.requires.over }
 
-pub returns-in-Ldls-clause-does : goal.returns-in-Ldls-clause-does
-returns-in-Ldls-clause-does g c =
-    on_memory g.M.Memory.holds g.M.Memory.is_over (object_of c.args.difo.now) c.args.firing.now c.args.memory.now c.args.machine.now c.args.next _ _ c.in-Ldls.is _ _ _ (c.ldls.ensures.does (object_of c.args.difo.now) c.args.firing.now)
+pub returns-in-Stts : goal.returns-in-Stts
+returns-in-Stts g c = variable_was g (goal.at.returns-in-Stts g c).Start _ c.in-Stts.is _ _ _ c.store.ensures
 
-pub stls-requires : goal.stls-requires
-stls-requires g c = record { can = can (object_of c.args.difo.now) c.args.firing.now c.args.machine.now (g.M.Memory.holds c.args.memory.now c.args.machine.now.texts) c.requires.runs.0 c.args.next _ _ c.requires.runs.1 c.in-Stls.is c.requires.runs.2; over = c.requires.over }
+pub load-requires-in-Ldls : goal.load-requires-in-Ldls
+load-requires-in-Ldls g c = record { can = can g (goal.at.load-requires-in-Ldls g c).Start _ c.in-Ldls.is; over = c.requires.over }
 
-pub returns-in-Stls-clause-does : goal.returns-in-Stls-clause-does
-returns-in-Stls-clause-does g c =
-    on_memory g.M.Memory.holds g.M.Memory.is_over (object_of c.args.difo.now) c.args.firing.now c.args.memory.now c.args.machine.now c.args.next _ _ c.in-Stls.is _ _ _ (c.stls.ensures.does (object_of c.args.difo.now) c.args.firing.now)
+pub returns-in-Ldls : goal.returns-in-Ldls
+returns-in-Ldls g c = variable_was g (goal.at.returns-in-Ldls g c).Start _ c.in-Ldls.is _ _ _ c.load-in-Ldls.ensures
 
-pub ldtaa-requires : goal.ldtaa-requires
-ldtaa-requires g c = record { can = can (object_of c.args.difo.now) c.args.firing.now c.args.machine.now (g.M.Memory.holds c.args.memory.now c.args.machine.now.texts) c.requires.runs.0 c.args.next _ _ c.requires.runs.1 c.in-Ldtaa.is c.requires.runs.2; over = c.requires.over }
+pub store-requires-in-Stls : goal.store-requires-in-Stls
+store-requires-in-Stls g c = record { can = can g (goal.at.store-requires-in-Stls g c).Start _ c.in-Stls.is; over = c.requires.over }
 
-pub returns-in-Ldtaa-clause-does : goal.returns-in-Ldtaa-clause-does
-returns-in-Ldtaa-clause-does g c =
-    on_memory g.M.Memory.holds g.M.Memory.is_over (object_of c.args.difo.now) c.args.firing.now c.args.memory.now c.args.machine.now c.args.next _ _ c.in-Ldtaa.is _ _ _ (c.ldtaa.ensures.does (object_of c.args.difo.now) c.args.firing.now)
+pub returns-in-Stls : goal.returns-in-Stls
+returns-in-Stls g c = variable_was g (goal.at.returns-in-Stls g c).Start _ c.in-Stls.is _ _ _ c.store-in-Stls.ensures
 
-pub sttaa-requires : goal.sttaa-requires
-sttaa-requires g c = record { can = can (object_of c.args.difo.now) c.args.firing.now c.args.machine.now (g.M.Memory.holds c.args.memory.now c.args.machine.now.texts) c.requires.runs.0 c.args.next _ _ c.requires.runs.1 c.in-Sttaa.is c.requires.runs.2; over = c.requires.over }
+pub load-requires-in-Ldtaa : goal.load-requires-in-Ldtaa
+load-requires-in-Ldtaa g c = record { can = can g (goal.at.load-requires-in-Ldtaa g c).Start _ c.in-Ldtaa.is; over = c.requires.over }
 
-pub returns-in-Sttaa-clause-does : goal.returns-in-Sttaa-clause-does
-returns-in-Sttaa-clause-does g c =
-    on_memory g.M.Memory.holds g.M.Memory.is_over (object_of c.args.difo.now) c.args.firing.now c.args.memory.now c.args.machine.now c.args.next _ _ c.in-Sttaa.is _ _ _ (c.sttaa.ensures.does (object_of c.args.difo.now) c.args.firing.now)
+pub returns-in-Ldtaa : goal.returns-in-Ldtaa
+returns-in-Ldtaa g c = variable_was g (goal.at.returns-in-Ldtaa g c).Start _ c.in-Ldtaa.is _ _ _ c.load-in-Ldtaa.ensures
+
+pub store-requires-in-Sttaa : goal.store-requires-in-Sttaa
+store-requires-in-Sttaa g c = record { can = can g (goal.at.store-requires-in-Sttaa g c).Start _ c.in-Sttaa.is; over = c.requires.over }
+
+pub returns-in-Sttaa : goal.returns-in-Sttaa
+returns-in-Sttaa g c = variable_was g (goal.at.returns-in-Sttaa g c).Start _ c.in-Sttaa.is _ _ _ c.store-in-Sttaa.ensures

@@ -5,7 +5,7 @@ use Rattle.dif_machine.specs.Vocabulary.{object_of}
 use Rattle.dif_machine.proofs.Executing.{stepped_by}
 use Rattle.dif_machine.proofs.stepping.step.Goals as goal
 
-pub returns-clause-does : goal.returns-clause-does
-returns-clause-does g c =
+pub returns : goal.returns
+returns g c =
     let there = ap (λ l. slice_get l c.args.index) (sym c.deref.ensures.value) ∙ slice_get_read _ _ _ _ refl c.in-Some.ensures.lookup.3.0 c.in-Some.ensures.lookup.1 in
-    stepped_by g.M.Memory.holds g.M.Memory.is_over (object_of c.args.difo.now) c.args.firing.now c.args.memory.now c.args.machine.now c.args.index c.in-Some.instr.now there _ _ _ c.execute.ensures.does
+    stepped_by g.M.Memory.holds g.M.Memory.is_over g.M.Memory.beside (object_of c.args.difo.now) c.args.firing.now c.args.memory.now c.args.machine.now c.args.index c.in-Some.instr.now there _ _ _ c.execute.ensures

@@ -1,5 +1,5 @@
 use Rattle.std.specs.Prelude.{◌≡◌, ◌≤◌, List, length}
-use Rattle.std.proofs.Common.{ap, subst, ◌∙◌}
+use Rattle.std.proofs.Common.{subst, ◌∙◌}
 use Rattle.d_values.proofs.Storing.{on_either, on_err, on_ok}
 use Rattle.numbered.specs.Tables.{key_of, with_word, word_in}
 use Rattle.numbered.specs.declared.word.Word.{Word}
@@ -7,57 +7,41 @@ use Rattle.numbered.specs.Words.{bits_of, word_of}
 use Rattle.dif_machine.specs.Cells.{cell_key, locals_in, words_of}
 use Rattle.dif_machine.specs.Machine.{value_of}
 use Rattle.dif_machine.proofs.Cells.{beside_same, beside_set, key_is, kind_word, own_set, table_same, table_set}
+use Rattle.dif_machine.proofs.lane_memory.LaneMemoryMemory.store_own.Goals.{After-set}
 use Rattle.dif_machine.proofs.lane_memory.LaneMemoryMemory.store_own.Goals as goal
 
+few : (c : After-set) → length c.args.key.now ≤ 8
+few c = subst (λ (ws : List Word). length ws ≤ 8) c.words.ensures.words c.words.ensures.few
+
+kind_is : (c : After-set) → word_of c.args.x.kind (bits_of c.args.word) ≡ c.args.word
+kind_is c = kind_word c.args._texts.now c.args.x.kind c.args.word c.requires.kind
+
+-- the cell that is set
+is : (c : After-set) → with_word (word_in c.args.self.now.table) (key_of c.args.self.now.thread c.cell.result c.words.result.now) c.bits.result ≡ with_word (word_in c.args.self.now.table) (cell_key c.args.self.now.thread c.args.x c.args.key.now) (bits_of c.args.word)
+is c i = with_word (word_in c.args.self.now.table) (key_is c.args.self.now.thread c.args.x c.args.key.now c.cell.result c.words.result.now c.cell.ensures c.words.ensures.words i) (c.bits.ensures i)
+
 pub returns-clause-over : goal.returns-clause-over
-returns-clause-over c =
-    let texts = c.args._texts.now in
-    let table = c.args.self.now.table in
-    let thread = c.args.self.now.thread in
-    let key = c.args.key.now in
-    let few : length key ≤ 8 = subst (λ (ws : List Word). length ws ≤ 8) c.words.ensures.words c.words.ensures.few in
-    let kind_is = kind_word texts c.args.x.kind c.args.word c.requires.kind in
-    let is : with_word (word_in table) (key_of thread c.cell.result c.words.result.now) c.bits.result ≡ with_word (word_in table) (cell_key thread c.args.x key) (bits_of c.args.word) =
-    ap (λ k. with_word (word_in table) k c.bits.result) (key_is thread c.args.x key c.cell.result c.words.result.now c.cell.ensures c.words.ensures.words) ∙ ap (with_word (word_in table) (cell_key thread c.args.x key)) c.bits.ensures in (
-      on_either c.set.result c.set.ensures.ok c.set.ensures.err
-          (λ set. table_set texts table c.set.new.self thread c.args.x key c.args.word c.requires.distinct c.requires.over.0 few c.requires.keyed c.requires.within kind_is (set ∙ is))
-          (λ same. table_same texts table c.set.new.self same c.requires.over.0),
-      c.requires.over.1,
-    )
+returns-clause-over c = (
+  on_either c.set.result c.set.ensures.ok c.set.ensures.err
+      (λ set. table_set c.args._texts.now c.args.self.now.table c.set.new.self c.args.self.now.thread c.args.x c.args.key.now c.args.word c.requires.distinct c.requires.over.0 (few c) c.requires.keyed c.requires.within (kind_is c) (set ∙ is c))
+      (λ same. table_same c.args._texts.now c.args.self.now.table c.set.new.self same c.requires.over.0),
+  c.requires.over.1,
+)
 
 pub returns-clause-ok : goal.returns-clause-ok
-returns-clause-ok c =
-    let texts = c.args._texts.now in
-    let table = c.args.self.now.table in
-    let thread = c.args.self.now.thread in
-    let key = c.args.key.now in
-    let few : length key ≤ 8 = subst (λ (ws : List Word). length ws ≤ 8) c.words.ensures.words c.words.ensures.few in
-    let kind_is = kind_word texts c.args.x.kind c.args.word c.requires.kind in
-    let is : with_word (word_in table) (key_of thread c.cell.result c.words.result.now) c.bits.result ≡ with_word (word_in table) (cell_key thread c.args.x key) (bits_of c.args.word) =
-    ap (λ k. with_word (word_in table) k c.bits.result) (key_is thread c.args.x key c.cell.result c.words.result.now c.cell.ensures c.words.ensures.words) ∙ ap (with_word (word_in table) (cell_key thread c.args.x key)) c.bits.ensures in
-    on_ok c.set.result c.set.ensures.ok
-    (λ set i. record {
-      locals = locals_in texts c.args.self.now.locals.items;
-      own = own_set texts table c.set.new.self thread c.args.x key c.args.word c.requires.distinct c.requires.over.0 few c.requires.keyed c.requires.within kind_is (set ∙ is) i;
-    })
+returns-clause-ok c = on_ok c.set.result c.set.ensures.ok (λ set i. record {
+  locals = locals_in c.args._texts.now c.args.self.now.locals.items;
+  own = own_set c.args._texts.now c.args.self.now.table c.set.new.self c.args.self.now.thread c.args.x c.args.key.now c.args.word c.requires.distinct c.requires.over.0 (few c) c.requires.keyed c.requires.within (kind_is c) (set ∙ is c) i;
+})
 
 pub returns-clause-err : goal.returns-clause-err
-returns-clause-err c =
-    let texts = c.args._texts.now in
-    let thread = c.args.self.now.thread in
-    on_err c.set.result c.set.ensures.err
-    (λ same i. record {
-      locals = locals_in texts c.args.self.now.locals.items;
-      own = λ y k. value_of texts (word_of y.kind (same i (cell_key thread y (words_of texts k))));
-    })
+returns-clause-err c = on_err c.set.result c.set.ensures.err (λ same i. record {
+  locals = locals_in c.args._texts.now c.args.self.now.locals.items;
+  own = λ y k. value_of c.args._texts.now (word_of y.kind (same i (cell_key c.args.self.now.thread y (words_of c.args._texts.now k))));
+})
 
 pub returns-clause-beside : goal.returns-clause-beside
 returns-clause-beside c =
-    let table = c.args.self.now.table in
-    let thread = c.args.self.now.thread in
-    let key = c.args.key.now in
-    let is : with_word (word_in table) (key_of thread c.cell.result c.words.result.now) c.bits.result ≡ with_word (word_in table) (cell_key thread c.args.x key) c.bits.result =
-    ap (λ k. with_word (word_in table) k c.bits.result) (key_is thread c.args.x key c.cell.result c.words.result.now c.cell.ensures c.words.ensures.words) in
     on_either c.set.result c.set.ensures.ok c.set.ensures.err
-    (λ set. beside_set table c.set.new.self thread c.args.x key c.bits.result (set ∙ is))
-    (λ same. beside_same table c.set.new.self thread same)
+    (λ set. beside_set c.args.self.now.table c.set.new.self c.args.self.now.thread c.args.x c.args.key.now (bits_of c.args.word) (set ∙ is c))
+    (λ same. beside_same c.args.self.now.table c.set.new.self c.args.self.now.thread same)

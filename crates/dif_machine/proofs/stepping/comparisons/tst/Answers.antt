@@ -1,7 +1,6 @@
-use Rattle.dif_machine.specs.Frames.{at_index}
-use Rattle.dif_machine.proofs.Acting as acting
-use Rattle.dif_machine.proofs.Holding.{at_next, keeps_same, still_known}
+use Rattle.std.proofs.Common.{refl}
+use Rattle.dif_machine.proofs.Executing.{goes}
 use Rattle.dif_machine.proofs.stepping.comparisons.tst.Goals as goal
 
 pub returns : goal.returns
-returns c = λ o f. record { kept = keeps_same _ _ c.compare.ensures.texts; known = still_known f _ _ c.compare.ensures.known; stepped = λ index is_next vars. acting.tst o f (at_index c.args.machine.now.frame index) vars _ _ _ _ c.number.ensures c.compare_numbers-known.ensures (at_next _ _ _ index is_next c.compare.ensures.frame) }
+returns c = λ o f. goes _ _ o f _ _ _ c.compare.ensures (λ index is_next vars. rw (c.number.ensures, c.compare_numbers-known.ensures) refl)

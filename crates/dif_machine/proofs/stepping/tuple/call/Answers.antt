@@ -1,11 +1,13 @@
-use Rattle.dif_machine.specs.Vocabulary.{Call}
+use Rattle.std.proofs.Common.{sym, subst}
 use Rattle.dif_machine.specs.Frames.{at_index}
-use Rattle.dif_machine.proofs.Acting as acting
-use Rattle.dif_machine.proofs.Executing.{can_here}
-use Rattle.dif_machine.proofs.Holding.{at_next, still_known}
+use Rattle.dif_machine.specs.Machine.{Knows}
+use Rattle.dif_machine.specs.Operators.{call_of}
+use Rattle.dif_machine.specs.Semantics.{puts}
+use Rattle.dif_machine.proofs.Acting.{on_word}
+use Rattle.dif_machine.proofs.Executing.{finds, there}
 use Rattle.dif_machine.proofs.stepping.tuple.call.Goals as goal
 
 pub returns : goal.returns
 returns c =
-    let can = c.requires in
-    λ o f. record { kept = c.call.ensures.kept; known = still_known f _ _ c.call.ensures.known; stepped = λ index is_next vars. let here = can_here (Call c.args.function c.args.d) c.args.next can.0 can.1 c.args.machine.now.frame can.2 index is_next in acting.call_some o f (at_index c.args.machine.now.frame index) vars _ _ _ here.0 here.1 (λ value e. at_next _ _ _ index is_next (c.in_ok-call.ensures.frame value e)) }
+    let k = c.call.ensures.grows in
+    λ o f. finds _ _ o f _ _ _ _ _ k.kept k.frame (subst (Knows f) (sym k.known)) c.put.ensures (λ index is_next vars. on_word c.call.new.self.texts c.in_ok-word.word (λ value. puts (at_index c.args.machine.now.frame index) c.args.d value vars) _ (there (call_of c.args.function c.args.machine.now.frame.tuple) (λ value. puts (at_index c.args.machine.now.frame c.requires.3) c.args.d value c.requires.2) c.requires.5) c.in_ok-word.ensures.word)

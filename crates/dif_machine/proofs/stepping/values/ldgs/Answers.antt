@@ -1,8 +1,15 @@
+use Rattle.std.proofs.Common.{ap, sym, ◌∙◌}
+use Rattle.std.proofs.lemmas.Option.{slice_get-get_or}
 use Rattle.dif_machine.specs.Frames.{at_index}
-use Rattle.dif_machine.proofs.Acting as acting
-use Rattle.dif_machine.proofs.Holding.{at_next}
+use Rattle.dif_machine.specs.Semantics.{on, puts}
+use Rattle.dif_machine.specs.Sources.{built_ins}
+use Rattle.dif_machine.specs.Vocabulary.{Int, Value}
+use Rattle.dif_machine.proofs.Executing.{finds}
 use Rattle.dif_machine.proofs.stepping.values.ldgs.Goals as goal
 
 pub returns : goal.returns
 returns c =
-    λ o. record { kept = c.load_built_in.ensures.kept; known = λ k. c.load_built_in.ensures.known; stepped = λ index is_next vars. acting.ldgs_some o c.args.firing.now (at_index c.args.machine.now.frame index) vars _ _ _ c.requires.there (λ value e. at_next _ _ _ index is_next (c.in_ok-load_built_in.ensures.frame value e)) }
+    let k = c.built_in.ensures in
+    λ o. finds _ _ o c.args.firing.now _ _ _ _ _ k.kept k.frame (λ known. k.known) c.put.ensures (λ index is_next vars.
+    ap (λ x. on x (λ value. puts (at_index c.args.machine.now.frame index) c.args.d value vars)) (slice_get-get_or (built_ins c.args.firing.now) c.args.v (Int 0) c.requires.there)
+    ∙ ap (λ (value : Value). puts (at_index c.args.machine.now.frame index) c.args.d value vars) (sym c.in_ok-word.ensures.word.is))

@@ -1,0 +1,30 @@
+use Rattle.std.proofs.Common.{sym, ◌∙◌}
+use Rattle.dif_machine.specs.Frames.{at_index}
+use Rattle.dif_machine.specs.Semantics.{Goes}
+use Rattle.dif_machine.specs.Steps.Instructions.{store_of}
+use Rattle.dif_machine.proofs.Acting.{stored_kind, stored_there, stores}
+use Rattle.dif_machine.proofs.Executing.{can_here}
+use Rattle.dif_machine.proofs.Holding.{keeps_refl}
+use Rattle.dif_machine.proofs.stepping.variables.store.Goals as goal
+
+pub word-word-requires : goal.word-word-requires
+word-word-requires g c =
+    let can = c.requires.can in
+    stored_there (at_index c.args.machine.now.frame can.3) can.2 can.2 can.0 can.0 can.1 can.1 c.args.variable c.args.a can.5
+
+pub store-requires-clause-kind : goal.store-requires-clause-kind
+store-requires-clause-kind g c =
+    let can = c.requires.can in
+    stored_kind (at_index c.args.machine.now.frame can.3) can.2 can.2 can.0 can.0 can.1 can.1 c.args.variable c.args.a _ can.5 c.word-word.ensures.is
+
+pub returns : goal.returns
+returns g c = λ o f index is_next.
+    let here = can_here (store_of c.args.variable c.args.a) c.args.next c.args.machine.now.frame c.requires.can index is_next in
+    let acts = stores (at_index c.args.machine.now.frame index) here.2 (g.M.Memory.holds c.args.memory.now c.args.machine.now.texts) here.0 o here.1 f c.args.variable c.args.a _ here.3 c.word-word.ensures.is in
+    record {
+      kept = keeps_refl _;
+      known = λ k. k;
+      over = c.store.ensures.over;
+      others = c.store.ensures.beside;
+      stepped = acts ∙ sym (λ j. Goes (at_index c.args.machine.now.frame (is_next j)) (c.in_ok-store.ensures.ok j));
+    }
