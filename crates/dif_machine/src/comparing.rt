@@ -27,6 +27,7 @@ pub(crate) fn compare_numbers(a: u64, b: u64) -> Comparison
 }
 
 /// How two texts compare.
+#[inline(never)]
 pub(crate) fn compare_texts(a: &[u8], b: &[u8]) -> Comparison
     ensures { result ≡ spec.text_comparison_of a.now b.now }
 {

@@ -31,7 +31,7 @@ pub(super) fn tst(machine: &mut Machine, a: Reg, next: usize) -> Step
 }
 
 /// `scmp a, b`: compares two texts.
-#[inline(never)]
+#[inline(always)]
 pub(super) fn scmp(machine: &mut Machine, a: Reg, b: Reg, next: usize) -> Step
     requires { CanExecute (Scmp a b) next machine.old.frame }
     ensures { Executes (Scmp a b) next machine.old result machine.new }
