@@ -1,6 +1,6 @@
 //! Texts, each with a number.
 
-ghost use Rattle.std.specs.Prelude.{◌≡◌, [], ◌∷◌, IfOk, OnErr};
+ghost use Rattle.std.specs.Prelude.{◌≡◌, [], ◌∷◌, IfOk, IfSome, OnErr};
 ghost use Rattle.d_values.specs.Stores.{lent_value};
 ghost use Rattle.numbered.specs.Texts.{AreDistinct, IsNumberOf, Keeps, text_at};
 ghost use Rattle.numbered.specs.Words.{value_of};
@@ -18,10 +18,11 @@ use std::marker::Model;
 /// that of the empty text is 0.
 #[derive(Drop)]
 pub struct Texts {
-    alloc: Global,
     texts: IndexSet<Text, HashKey>,
     cache: IndexCache,
     secret: u64,
+    // The text that was sought last, for its room.
+    room: Text,
 }
 
 const MULTIPLIER: u64 = 0x9e37_79b9_7f4a_7c15;
@@ -50,10 +51,10 @@ impl Texts {
         ensures distinct { IfOk result AreDistinct }
     {
         let mut texts = Texts {
-            alloc,
             texts: IndexSet::with_hasher(alloc, hash_key),
             cache: IndexCache::new(alloc),
             secret: hash_key.build_hasher().finish(),
+            room: Text::new(alloc),
         };
         texts.texts.insert(Text::new(alloc))?;
         Ok(texts)
@@ -88,10 +89,25 @@ impl Texts {
         ensures distinct { AreDistinct self.new }
         ensures err { OnErr result (self.new ≡ self.old) }
     {
-        let text = Text::from_slice(self.alloc, bytes)?;
-        let (index, _) = self.texts.insert_full(text)?;
+        self.room.assign(bytes)?;
+        let index = match index_of(&self.texts, &self.room) {
+            Some(index) => index,
+            None => self.add(bytes)?,
+        };
         self.cache.put(hash, index);
         Ok(index as u64)
+    }
+
+    // The index of these bytes, which get one if they have none. Takes memory even if they have.
+    fn add(&mut self, bytes: &[u8]) -> Result<usize, AllocError>
+        ensures number { IfOk result (λ n. IsNumberOf self.new n bytes.now) }
+        ensures kept { Keeps self.old self.new }
+        ensures distinct { AreDistinct self.new }
+        ensures err { OnErr result (self.new ≡ self.old) }
+    {
+        let text = Text::from_slice(*self.texts.allocator(), bytes)?;
+        let (index, _) = self.texts.insert_full(text)?;
+        Ok(index)
     }
 
     /// The text of a number: the empty one if no text has it.
@@ -122,6 +138,14 @@ impl Texts {
             Word::Text(number) => ValueRef::Text(self.text(number)),
         }
     }
+}
+
+// The index of a text that has one.
+fn index_of(texts: &IndexSet<Text, HashKey>, text: &Text) -> Option<usize>
+    ensures { IfSome result (λ index. IsNumberOf texts.now.keys index text.now) }
+{
+    let (index, _) = texts.get_full(text)?;
+    Some(index)
 }
 
 // A hash of the first bytes and the last ones.
