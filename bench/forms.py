@@ -488,5 +488,19 @@ VARIABLES = {
             },
         ),
     ),
+    "removed elements": Form(
+        MILLION,
+        3_000,
+        lambda size: trace_of(size, arg="{0}"),
+        lambda size: of_hit("self->a[arg0]=1;self->a[arg0]=0;"),
+        more=lambda size: {"variable": 1, "thread's array": 1, "element": 65},
+    ),
+    "made texts": Form(
+        30_000,
+        100,
+        lambda size: trace_of(size, program="{0:08}"),
+        lambda size: of_hit(each(64, 'strlen(strjoin(execname,"{0:02}"));')),
+        more=lambda size: {"numbered text": 65 * size, "byte of a numbered text": 648 * size},
+    ),
 }
 FORMS = {**TRACES, **SCRIPTS, **DESCRIPTIONS, **AGGREGATIONS, **VARIABLES}

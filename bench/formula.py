@@ -45,11 +45,11 @@ EACH = {
     "further variable": 510,
     "clause-local variable": 240,
     "thread's array": 800,
-    "element": 330,
+    "element": 150,
     "further part of an element's key": 34,
     "kept text": 32,
     "byte of a kept text": 1.1,
-    "numbered text": 200,
+    "numbered text": 100,
     "byte of a numbered text": 1.1,
 }
 # What groups make. These terms count twice where a script exits.
