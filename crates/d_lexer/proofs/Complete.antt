@@ -1,8 +1,9 @@
 -- What the text has is what is read.
 use Rattle.std.proofs.Common.{◌≡◌, eqb, ◌||◌, ℕ, suc, ◌+◌, Bool, true, false, not, cond, List, []}
 use Rattle.std.proofs.Common.{◌∷◌, ◌++◌, length, Option, Some, None, Result, Ok, Err, refl, sym, ap}
-use Rattle.std.proofs.Common.{◌∙◌, arith, append_assoc, length-append, inl, inr}
+use Rattle.std.proofs.Common.{subst, ◌∙◌, arith, append_assoc, length-append, inl, inr}
 use Rattle.std.proofs.lemmas.List.{append-nil}
+use Rattle.std.specs.Prelude.{slice_get, IfSome, codes}
 use Rattle.std.proofs.lemmas.Bool.Decides.{nat_tests}
 use Rattle.std.specs.Char.{is_ascii_digit}
 use Rattle.d_lexer.specs.declared.token.Mark.{Mark}
@@ -27,7 +28,7 @@ use Rattle.d_lexer.specs.Steps.Marks.{mark_by}
 use Rattle.d_lexer.specs.Places.{position_after, after_byte, is_head, is_first, is_hash}
 use Rattle.d_lexer.specs.Places.{place_after}
 use Rattle.d_lexer.specs.Steps.OptionLine.{is_option}
-use Rattle.d_lexer.specs.Tokens.{StopsAt, Fills, HasNoEnd, IsSeparator, blank, comment, first_line}
+use Rattle.d_lexer.specs.Tokens.{Fills, HasNoEnd, IsSeparator, blank, comment, first_line}
 use Rattle.d_lexer.specs.Tokens.{Past, here, past, IsLongestRun, SpellsText, SpellsAggregation}
 use Rattle.d_lexer.specs.Tokens.{IsMark}
 use Rattle.d_lexer.specs.Tokens.{SpellsToken, option_line}
@@ -44,7 +45,7 @@ use Rattle.d_lexer.proofs.Base.{run_fills, run_is, scan_skip, EndsAs, SpellsInsi
 use Rattle.d_lexer.proofs.Base.{SpellInTurn, in_turn}
 use Rattle.d_lexer.proofs.Steps.{later_text, later_none}
 use Rattle.d_lexer.proofs.Numbers.{IsNoNumber, number_reads, none_reads}
-use Rattle.d_lexer.proofs.OptionLines.{option_reads, no_option_reads}
+use Rattle.d_lexer.proofs.OptionLines.{spaced_of, option_reads, no_option_reads}
 use Rattle.d_lexer.proofs.MarkTables.{mark_walked}
 use Rattle.d_lexer.proofs.Marks.{MarkIs, mark_sound, mark_complete, mark_free, is_free}
 
@@ -88,11 +89,26 @@ front_option : (p : Place) (pos : Position) (w rest : List ℕ) (c : Bool) → i
 unfolding front_at
 front_option p pos w rest c e1 e2 e3 h = rw (e1, e2, run_is is_inside w rest h, run_fills is_inside w rest h, e3) refl
 
+first_at : (pos : Position) (z : List ℕ) → pos.at ≡ 0 → is_first pos 35 (33 ∷ z) ≡ true
+first_at pos z at = grind (arith, nat_tests)
+
+not_first : (pos : Position) (z : List ℕ) → is_first pos 35 (112 ∷ z) ≡ false
+not_first pos z = grind (arith, nat_tests)
+
 piece_reads : (p : Place) (pos : Position) (own rest : List ℕ) → IsSeparator p pos own rest → Reads p pos own rest (λ n. Ok (Gap n))
 piece_reads p pos own rest (blank b is e) = record { first = b; others = []; is = is; read = front_blank p pos b rest e }
 piece_reads p pos own rest (comment body is h) = record { first = 47; others = 42 ∷ (body ++ 42 ∷ (47 ∷ [])); is = is; read = front_comment p pos body rest h }
-piece_reads p pos own rest (first_line w is e h) = record { first = 35; others = w; is = is; read = front_first p pos w rest e h }
-piece_reads p pos own rest (option_line w is e1 e2 e3 h) = record { first = 35; others = w; is = is; read = front_option p pos w rest true e1 e2 (option_reads (35 ∷ w) (rw (← is) e3)) h }
+piece_reads p pos own rest (first_line w is at h) = record { first = 35; others = 33 ∷ w; is = is; read = front_first p pos (33 ∷ w) rest (first_at pos (w ++ rest) at) (record { all = (refl, h.all); stops = h.stops }) }
+piece_reads p pos own rest (option_line e line h) =
+    let s = spaced_of own line in
+    let others : List ℕ = codes "pragma" ++ s.0 in
+    let f = subst (λ (z : List ℕ). Fills is_inside z rest) s.1 h in
+    record {
+      first = 35;
+      others = others;
+      is = s.1;
+      read = front_option p pos others rest true (not_first pos ((codes "ragma" ++ s.0) ++ rest)) e (subst (λ (z : List ℕ). is_option z ≡ true) s.1 (option_reads own line)) (record { all = f.all.1; stops = f.stops });
+    }
 
 -- ---- tokens
 
@@ -140,7 +156,7 @@ inside_agg : (p : Place) (w : List ℕ) → inside_at p 64 w ≡ aggregation_fro
 unfolding inside_at
 inside_agg p w = refl
 
-agg_alone : (rest : List ℕ) → StopsAt is_word_start rest → aggregation_front rest ≡ Ok (front.Token (kind.AggregationName (95 ∷ [])) 0)
+agg_alone : (rest : List ℕ) → IfSome (slice_get rest 0) (λ b. is_word_start b ≡ false) → aggregation_front rest ≡ Ok (front.Token (kind.AggregationName (95 ∷ [])) 0)
 agg_alone [] h = refl
 agg_alone (b ∷ rest) h = rw h refl
 

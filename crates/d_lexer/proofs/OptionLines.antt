@@ -31,7 +31,7 @@ joined a b c d e f g z =
     ∙ append_assoc (a ++ b ++ c ++ d) e (f ++ (g ++ z)) ∙ append_assoc (a ++ b ++ c) d (e ++ (f ++ (g ++ z)))
     ∙ append_assoc (a ++ b) c (d ++ (e ++ (f ++ (g ++ z)))) ∙ append_assoc a b (c ++ (d ++ (e ++ (f ++ (g ++ z)))))
 
-spaced_of : (own : List ℕ) → IsOptionLine own → IsSpacedLine own
+pub spaced_of : (own : List ℕ) → IsOptionLine own → IsSpacedLine own
 spaced_of own (a, b, c, end, first, second, third, trail, is) = (
   a ++ (codes "D" ++ (b ++ (codes "option" ++ (c ++ (codes "quiet" ++ end))))),
   is ∙ joined (codes "#pragma") a (codes "D") b (codes "option") c (codes "quiet") end,

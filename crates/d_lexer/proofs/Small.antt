@@ -10,8 +10,7 @@ use Rattle.d_lexer.specs.declared.place.Place.TheVariants.{Head, Declaration, Pr
 use Rattle.d_lexer.specs.declared.position.Position.{Position}
 use Rattle.d_lexer.specs.Places.{first_position, place_after}
 use Rattle.d_lexer.specs.Tokens.{Past, here, past, SpellsToken, Lexes}
-use Rattle.d_lexer.specs.Lexing.{open_kind, settle, opens_body, AreTokens}
-use Rattle.d_lexer.specs.Steps.Lexing.{settle_token}
+use Rattle.d_lexer.specs.Lexing.{settled_kind, settle, AreTokens}
 use Rattle.d_lexer.specs.Small.{HasSmallNumber, HaveSmallNumbers}
 
 number_small : (p : Place) (own rest : List ℕ) (n : ℕ) (s : Suffix) → SpellsToken p own rest (kind.Number n s) → n < 2 ^ 64
@@ -38,17 +37,15 @@ lexed_small [] End p pos bytes h = tt
 lexed_small (t ∷ ts) End p pos bytes h =
     later p _ (HaveSmallNumbers (t ∷ ts)) (λ q z e. (spelled_small p e.0 e.1 t.kind e.3, lexed_small ts End (place_after p t.kind) _ e.1 e.7)) h
 
-opened_small : (k : TokenKind) → HasSmallNumber k → HasSmallNumber (open_kind k)
-opened_small (kind.Mark m.ClosingSlash) h = tt
-opened_small k h = h
-
-settled_small : (t : Token) (b : Bool) → HasSmallNumber t.kind → HasSmallNumber (settle_token t b).kind
-settled_small t true h = h
-settled_small t false h = opened_small t.kind h
+settled_small : (k : TokenKind) (ks : List TokenKind) → HasSmallNumber k → HasSmallNumber (settled_kind k ks)
+settled_small (kind.Mark m.ClosingSlash) [] h = tt
+settled_small (kind.Mark m.ClosingSlash) (kind.Mark m.OpenBrace ∷ ks) h = tt
+settled_small (kind.Mark m.ClosingSlash) (j ∷ ks) h = tt
+settled_small k ks h = h
 
 settle_small : (ts : List Token) → HaveSmallNumbers ts → HaveSmallNumbers (settle ts)
 settle_small [] h = tt
-settle_small (t ∷ ts) h = (settled_small t (opens_body ts) h.0, settle_small ts h.1)
+settle_small (t ∷ ts) h = (settled_small t.kind _ h.0, settle_small ts h.1)
 
 pub tokens_small : (bytes : List ℕ) (ts : List Token) → AreTokens bytes ts → HaveSmallNumbers ts
 tokens_small bytes ts a = subst HaveSmallNumbers (sym a.2) (settle_small a.0 (lexed_small a.0 (λ p pos rest. rest ≡ []) Head first_position bytes a.1))

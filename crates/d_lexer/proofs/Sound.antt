@@ -258,12 +258,29 @@ first_hash pos b z e = grind (arith, nat_tests)
 line_hash : (p : Place) (pos : Position) (b : ℕ) → is_hash p pos b ≡ true → b ≡ 35
 line_hash p pos b e = grind (arith, nat_tests)
 
+-- the line that begins with #!
+begins_line : (p : Place) (pos : Position) (own rest : List ℕ) → eqb pos.at 0 ≡ true → next_is 33 (own ++ rest) ≡ true → Fills is_inside own rest → IsSeparator p pos (35 ∷ own) rest
+begins_line p pos [] [] at next h = absurd cc
+begins_line p pos [] (c ∷ rest) at next h =
+    let stops : is_inside 33 ≡ false = subst (λ (x : ℕ). is_inside x ≡ false) (eqb-true c 33 next) h.stops in
+    absurd cc
+begins_line p pos (c ∷ own) rest at next h =
+    first_line own (ap (λ (x : ℕ). 35 ∷ (x ∷ own)) (eqb-true c 33 next)) (eqb-true pos.at 0 at) (record { all = h.all.1; stops = h.stops })
+
+parts : (a c : Bool) → (a && true && c) ≡ true → (a ≡ true) × (c ≡ true)
+parts true true e = (refl, refl)
+parts true false e = absurd cc
+parts false c e = absurd cc
+
+first_parts : (pos : Position) (z : List ℕ) → is_first pos 35 z ≡ true → (eqb pos.at 0 ≡ true) × (next_is 33 z ≡ true)
+first_parts pos z e = parts (eqb pos.at 0) (next_is 33 z) e
+
 option_sound : (p : Place) (pos : Position) (z : List ℕ) → is_first pos 35 z ≡ false → is_hash p pos 35 ≡ true → (s : Split (Fills is_inside) (run_len is_inside z) z) →
     FrontIs p pos 35 z (cond (is_option (35 ∷ front_run is_inside z)) (Ok (Gap (run_len is_inside z))) (Err f.OptionLine))
 option_sound p pos z no_first is s =
     let first : is_first pos 35 (s.own ++ s.rest) ≡ false = rw (← s.is) no_first in
     cond_is (FrontIs p pos 35 z) (is_option (35 ∷ front_run is_inside z)) _ _
-    (λ e. record { own = s.own; rest = s.rest; is = s.is; size = s.size; holds = option_line s.own refl first is (option_is (35 ∷ s.own) (rw (← run_of_is is_inside z s) e)) s.holds })
+    (λ e. record { own = s.own; rest = s.rest; is = s.is; size = s.size; holds = option_line is (option_is (35 ∷ s.own) (rw (← run_of_is is_inside z s) e)) (record { all = (refl, s.holds.all); stops = s.holds.stops }) })
     (λ e. other_option s.own s.rest (ap (λ (xs : List ℕ). 35 ∷ xs) s.is) first is (no_option_is (35 ∷ s.own) (rw (← run_of_is is_inside z s) e)) s.holds)
 
 pub front_sound : (p : Place) (pos : Position) (b : ℕ) (z : List ℕ) → FrontIs p pos b z (front_at p pos b z)
@@ -280,7 +297,9 @@ front_sound p pos b z =
     (λ e. let s = run_splits is_inside z in
     let b_is : b ≡ 35 = first_hash pos b z e in
     let first : is_first pos 35 (s.own ++ s.rest) ≡ true = rw (← s.is) (subst (λ (x : ℕ). is_first pos x z ≡ true) b_is e) in
-    record { own = s.own; rest = s.rest; is = s.is; size = s.size; holds = first_line s.own (ap (λ (x : ℕ). x ∷ s.own) b_is) first s.holds })
+    let q = first_parts pos (s.own ++ s.rest) first in
+    let line = begins_line p pos s.own s.rest q.0 q.1 s.holds in
+    record { own = s.own; rest = s.rest; is = s.is; size = s.size; holds = subst (λ (x : ℕ). IsSeparator p pos (x ∷ s.own) s.rest) (sym b_is) line })
     (λ e3. cond_is (FrontIs p pos b z) (is_hash p pos b) _ _
     (λ e. let b_is : b ≡ 35 = line_hash p pos b e in
     let g : is_first pos 35 z ≡ false = subst (λ (x : ℕ). is_first pos x z ≡ false) b_is e3 in

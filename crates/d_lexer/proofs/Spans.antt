@@ -6,6 +6,7 @@ use Rattle.std.proofs.lemmas.List.Sums.{sum_by-append}
 use Rattle.std.specs.Prelude.{count_by}
 use Rattle.std.specs.List.{AllByRecursion}
 use Rattle.d_lexer.specs.declared.token.Token.{Token}
+use Rattle.d_lexer.specs.declared.token.TokenKind.{TokenKind}
 use Rattle.d_lexer.specs.declared.place.Place.{Place}
 use Rattle.d_lexer.specs.declared.place.Place.TheVariants.{Head}
 use Rattle.d_lexer.specs.declared.position.Position.{Position}
@@ -14,8 +15,7 @@ use Rattle.d_lexer.specs.Places.{first_position, after_byte, position_after, pla
 use Rattle.d_lexer.specs.Faults.{on_line, IsFault}
 use Rattle.d_lexer.specs.Tokens.{Past, here, past, SpellsToken, Lexes}
 use Rattle.d_lexer.specs.Steps.Scan.{TokensEnd, Clean}
-use Rattle.d_lexer.specs.Lexing.{settle, opens_body, AreTokens, IsFirstFault}
-use Rattle.d_lexer.specs.Steps.Lexing.{settle_token}
+use Rattle.d_lexer.specs.Lexing.{settle, AreTokens, IsFirstFault}
 use Rattle.d_lexer.specs.Spans.{line_after, IsInPlace, AreInOrder, HasItsLine}
 use Rattle.d_lexer.proofs.{Base.EndsAs, Complete.token_reads, Complete.fault_fails}
 
@@ -94,21 +94,16 @@ at_start : IsAfter [] first_position
 at_start = record { at = refl; line = refl }
 
 -- settling leaves spans and lines
-settled_stands : (all : List ℕ) (t : Token) (b : Bool) → IsInPlace all t → IsInPlace all (settle_token t b)
-settled_stands all t true s = s
-settled_stands all t false s = record { before = s.before; own = s.own; later = s.later; is = s.is; start = s.start; stop = s.stop; line = s.line }
+settled_stands : (all : List ℕ) (t : Token) (k : TokenKind) → IsInPlace all t → IsInPlace all (record t { kind = k })
+settled_stands all t k s = record { before = s.before; own = s.own; later = s.later; is = s.is; start = s.start; stop = s.stop; line = s.line }
 
 settle_stands : (all : List ℕ) (ts : List Token) → AllByRecursion (IsInPlace all) ts → AllByRecursion (IsInPlace all) (settle ts)
 settle_stands all [] h = tt
-settle_stands all (t ∷ ts) h = (settled_stands all t (opens_body ts) h.0, settle_stands all ts h.1)
-
-settled_order : (from : ℕ) (t : Token) (b : Bool) (ts : List Token) → from ≤ t.start → t.start < t.stop → AreInOrder t.stop ts → AreInOrder from (settle_token t b ∷ ts)
-settled_order from t true ts low nonempty more = (low, nonempty, more)
-settled_order from t false ts low nonempty more = (low, nonempty, more)
+settle_stands all (t ∷ ts) h = (settled_stands all t _ h.0, settle_stands all ts h.1)
 
 settle_order : (from : ℕ) (ts : List Token) → AreInOrder from ts → AreInOrder from (settle ts)
 settle_order from [] h = tt
-settle_order from (t ∷ ts) h = settled_order from t (opens_body ts) (settle ts) h.0 h.1 (settle_order t.stop ts h.2)
+settle_order from (t ∷ ts) h = (h.0, h.1, settle_order t.stop ts h.2)
 
 all_stand : (bytes : List ℕ) (ts : List Token) (end : TokensEnd) → Lexes (EndsAs end) Head first_position bytes ts → AllStand bytes 0 ts
 all_stand bytes ts end h = stand ts end Head bytes [] first_position bytes 0 refl at_start (omega arith) h

@@ -1,33 +1,24 @@
 -- The tokens of a script, and why it has none.
 -- Source: Dynamic Tracing Guide, "D Program Structure".
-use Rattle.std.specs.Prelude.{◌≡◌, ℕ, ◌<◌, ◌≤◌, ◌⊎◌, Bool, true, false, if◌then◌else◌, List}
-use Rattle.std.specs.Prelude.{[], ◌∷◌, length}
+use Rattle.std.specs.Prelude.{◌≡◌, ℕ, ◌<◌, ◌≤◌, ◌⊎◌, List, [], ◌∷◌, length, map}
 use Rattle.d_lexer.specs.Vocabulary.{Token, TokenKind, Head, LexFault, Mark, MAX_BYTES}
 use Rattle.d_lexer.specs.Places.{first_position}
 use Rattle.d_lexer.specs.{Tokens.Lexes, Faults.IsFault}
 
 -- ---- the closing slash of a predicate
 
--- the token is an opening brace
-abbrev pub is_brace : TokenKind → Bool
-is_brace (TokenKind.Mark Mark.OpenBrace) = true
-is_brace t = false
+-- what a token is before tokens of these kinds: a slash of a predicate is the closing one exactly
+-- where an opening brace comes next, and else a division
+abbrev pub settled_kind : TokenKind → List TokenKind → TokenKind
+settled_kind (TokenKind.Mark Mark.ClosingSlash) (TokenKind.Mark Mark.OpenBrace ∷ later) =
+    TokenKind.Mark Mark.ClosingSlash
+settled_kind (TokenKind.Mark Mark.ClosingSlash) later = TokenKind.Mark Mark.Slash
+settled_kind kind later = kind
 
--- the first of the tokens is an opening brace
-abbrev pub opens_body : List Token → Bool
-opens_body [] = false
-opens_body (t ∷ ts) = is_brace t.kind
-
--- a closing slash is made a division
-abbrev pub open_kind : TokenKind → TokenKind
-open_kind (TokenKind.Mark Mark.ClosingSlash) = TokenKind.Mark Mark.Slash
-open_kind t = t
-
--- a slash of a predicate is the closing one exactly where the next token is an opening brace
+-- the tokens, each slash settled
 abbrev pub settle : List Token → List Token
 settle [] = []
-settle (t ∷ ts) =
-    (if opens_body ts then t else record t { kind = open_kind t.kind }) ∷ settle ts
+settle (t ∷ ts) = record t { kind = settled_kind t.kind (map (λ u. u.kind) ts) } ∷ settle ts
 
 -- ---- tokens and fault
 

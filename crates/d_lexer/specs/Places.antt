@@ -42,16 +42,12 @@ is_hash p pos b = is_head p && pos.fresh && b == byte "#"
 
 -- ---- the place that follows a token
 
--- braces, a slash of the head and a semicolon of a declaration lead elsewhere
-abbrev pub place_after_mark : Place → Mark → Place
-place_after_mark p Mark.OpenBrace = Body
-place_after_mark p Mark.CloseBrace = Head
-place_after_mark Head Mark.Slash = Predicate
-place_after_mark Declaration Mark.Semicolon = Head
-place_after_mark p k = p
-
--- a word of the head is self or this
+-- braces, a slash of the head and a semicolon of a declaration lead elsewhere, and a word of the
+-- head, which is self or this
 abbrev pub place_after : Place → TokenKind → Place
-place_after p (TokenKind.Mark k) = place_after_mark p k
+place_after p (TokenKind.Mark Mark.OpenBrace) = Body
+place_after p (TokenKind.Mark Mark.CloseBrace) = Head
+place_after Head (TokenKind.Mark Mark.Slash) = Predicate
+place_after Declaration (TokenKind.Mark Mark.Semicolon) = Head
 place_after Head (TokenKind.Word w) = Declaration
 place_after p t = p

@@ -1,7 +1,7 @@
 -- Which tokens a script has.
 -- Source: Dynamic Tracing Guide, "D Program Structure".
 use Rattle.std.specs.Prelude.{◌≡◌, ℕ, ◌+◌, ◌≤◌, ◌⊎◌, Bool, true, false, ◌&&◌, ◌==◌, Some, List}
-use Rattle.std.specs.Prelude.{[], ◌∷◌, ◌++◌, length, codes}
+use Rattle.std.specs.Prelude.{[], ◌∷◌, ◌++◌, length, codes, slice_get, IfSome}
 use Rattle.d_lexer.specs.Vocabulary.{AllByRecursion, is_ascii_digit, Mark, Token, TokenKind, Place}
 use Rattle.d_lexer.specs.Vocabulary.{Head, Position}
 use Rattle.std.specs.{Str.byte, List.AllZip, List.concat}
@@ -9,20 +9,15 @@ use Rattle.d_lexer.specs.Bytes.{next_is, is_blank_byte}
 use Rattle.d_lexer.specs.Bytes.{is_word_start, is_word_byte, is_run_byte, is_inside}
 use Rattle.d_lexer.specs.Bytes.{stands_for_itself, begins_comment, escape_of, is_declaring}
 use Rattle.d_lexer.specs.Numbers.{IsIntegerConstant}
-use Rattle.d_lexer.specs.Places.{position_after, is_first, is_hash, place_after}
+use Rattle.d_lexer.specs.Places.{position_after, is_hash, place_after}
 use Rattle.d_lexer.specs.{Marks.mark_of, OptionLine.IsOptionLine}
 
 -- ---- what separates tokens
 
--- the bytes do not begin with one of the kind
-abbrev pub StopsAt : (ℕ → Bool) → List ℕ → Type 0
-StopsAt test [] = Unit {0}
-StopsAt test (b ∷ bs) = test b ≡ false
-
 -- own is all of the kind, and the rest goes on with another
 pub record Fills (test : ℕ → Bool) (own rest : List ℕ) : Type 0 where
   pub all : AllByRecursion (λ c. test c ≡ true) own
-  pub stops : StopsAt test rest
+  pub stops : IfSome (slice_get rest 0) (λ b. test b ≡ false)
 
 -- no star of it is followed by a slash
 abbrev pub HasNoEnd : List ℕ → Type 0
@@ -35,12 +30,10 @@ pub data IsSeparator (p : Place) (pos : Position) : (own rest : List ℕ) → Ty
       → IsSeparator p pos own rest
   comment : {own rest : List ℕ} (body : List ℕ) → own ≡ codes "/*" ++ (body ++ codes "*/")
       → HasNoEnd body → IsSeparator p pos own rest
-  first_line : {own rest : List ℕ} (w : List ℕ) → own ≡ byte "#" ∷ w
-      → is_first pos (byte "#") (w ++ rest) ≡ true → Fills is_inside w rest
-      → IsSeparator p pos own rest
-  option_line : {own rest : List ℕ} (w : List ℕ) → own ≡ byte "#" ∷ w
-      → is_first pos (byte "#") (w ++ rest) ≡ false → is_hash p pos (byte "#") ≡ true
-      → IsOptionLine own → Fills is_inside w rest → IsSeparator p pos own rest
+  first_line : {own rest : List ℕ} (w : List ℕ) → own ≡ codes "#!" ++ w → pos.at ≡ 0
+      → Fills is_inside w rest → IsSeparator p pos own rest
+  option_line : {own rest : List ℕ} → is_hash p pos (byte "#") ≡ true → IsOptionLine own
+      → Fills is_inside own rest → IsSeparator p pos own rest
 
 -- zero or more pieces, followed by input that satisfies Then
 pub data Past (p : Place) (Then : Position → List ℕ → Type 0) : Position → List ℕ → Type 0 where
@@ -77,7 +70,7 @@ pub record IsMark (p : Place) (own rest : List ℕ) (k : Mark) : Type 0 where
 -- a word directly after the @, or none
 abbrev pub SpellsAggregation : (own rest w : List ℕ) → Type 0
 SpellsAggregation own rest w =
-    ((own ≡ codes "@") × (w ≡ codes "_") × StopsAt is_word_start rest)
+    ((own ≡ codes "@") × (w ≡ codes "_") × IfSome (slice_get rest 0) (λ b. is_word_start b ≡ false))
     ⊎ ((own ≡ codes "@" ++ w) × IsLongestRun is_word_start is_word_byte w rest)
 
 -- Own is the longest spelling of the token at the front of own ++ rest. In the head self and this

@@ -7,7 +7,7 @@ ghost use Rattle.d_lexer.specs.Steps.Lexing as steps;
 use crate::token::{Mark, Token, TokenKind};
 
 fn is_brace(token: &Token) -> bool
-    ensures { result ≡ spec.is_brace token.now.kind }
+    ensures { result ≡ steps.is_brace token.now.kind }
 {
     matches!(token.kind, TokenKind::Mark(Mark::OpenBrace))
 }

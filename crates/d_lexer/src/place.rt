@@ -1,6 +1,7 @@
 //! The four places of a script.
 
 ghost use Rattle.std.specs.Prelude.{◌≡◌};
+ghost use Rattle.d_lexer.specs.{Vocabulary.TokenKind};
 ghost use Rattle.d_lexer.specs.Places as spec;
 
 use crate::token::{Mark, TokenKind};
@@ -35,7 +36,7 @@ impl Place {
     }
 
     fn after_mark(self, mark: Mark) -> Place
-        ensures { result ≡ spec.place_after_mark self mark }
+        ensures { result ≡ spec.place_after self (TokenKind.Mark mark) }
     {
         match (self, mark) {
             (_, Mark::OpenBrace) => Place::Body,

@@ -4,7 +4,7 @@ use Rattle.std.specs.Prelude.{if◌then◌else◌}
 use Rattle.d_lexer.specs.declared.{token.Token.Token, place.Place.Place}
 use Rattle.d_lexer.specs.declared.fault.LexFault.{LexFault}
 use Rattle.d_lexer.specs.declared.fault.LexFault.TheVariants as faults
-use Rattle.d_lexer.specs.{Lexing.settle, Lexing.open_kind}
+use Rattle.d_lexer.specs.Lexing.{settle}
 use Rattle.d_lexer.specs.Steps.Scan.{Scanned, TokensEnd, Clean, Bad}
 use Rattle.d_lexer.specs.Vocabulary.{TokenKind, Mark}
 
@@ -12,6 +12,16 @@ use Rattle.d_lexer.specs.Vocabulary.{TokenKind, Mark}
 abbrev pub is_closing : TokenKind → Bool
 is_closing (TokenKind.Mark Mark.ClosingSlash) = true
 is_closing t = false
+
+-- the token is an opening brace
+abbrev pub is_brace : TokenKind → Bool
+is_brace (TokenKind.Mark Mark.OpenBrace) = true
+is_brace t = false
+
+-- a closing slash is made a division
+abbrev pub open_kind : TokenKind → TokenKind
+open_kind (TokenKind.Mark Mark.ClosingSlash) = TokenKind.Mark Mark.Slash
+open_kind t = t
 
 -- a token, if an opening brace comes next or doesn't
 abbrev pub settle_token : Token → Bool → Token
