@@ -1,9 +1,10 @@
 -- The value of an aggregation, from the arguments in their order.
 -- Source: Dynamic Tracing Guide, "Aggregations".
 use Rattle.std.specs.Prelude.{◌≡◌, ℕ, ◌<◌, ◌≤◌, ◌^◌, ℤ, pos, ◌+ℤ◌, ◌≤ℤ◌, List, [], ◌∷◌, All}
-use Rattle.std.specs.Prelude.{Contains, length, sum, IsSomeAnd}
+use Rattle.std.specs.Prelude.{Contains, length, sum}
 use Rattle.std.specs.Int.{int_wrap, w64}
-use Rattle.aggregations.specs.Vocabulary.{AggFn, Count, Sum, Min, Max, Avg}
+use Rattle.aggregations.specs.Vocabulary.{AggFn, Count, Sum, Min, Max, Avg, Quantize, Lquantize}
+use Rattle.aggregations.specs.Vocabulary.{Powers, Steps}
 use Rattle.aggregations.specs.declared.held.Held.{
   Held,
   TheVariants.Counted,
@@ -13,7 +14,7 @@ use Rattle.aggregations.specs.declared.held.Held.{
   TheVariants.Mean,
   TheVariants.Counts,
 }
-use Rattle.aggregations.specs.{Buckets.scale_of, Histograms.histogram_of}
+use Rattle.aggregations.specs.Histograms.{histogram_of}
 
 -- the whole numbers, added up
 abbrev pub total : List ℤ → ℤ
@@ -39,8 +40,8 @@ IsValue Sum (Summed s) args = IsSum s args
 IsValue Min (Least m) args = IsLeast m args
 IsValue Max (Greatest m) args = IsGreatest m args
 IsValue Avg (Mean m) args = IsSum m.sum args × (m.count ≡ length args)
-IsValue function (Counts h) args =
-    IsSomeAnd (scale_of function) (λ scale. h ≡ histogram_of scale args)
+IsValue Quantize (Counts h) args = h ≡ histogram_of Powers args
+IsValue (Lquantize range) (Counts h) args = h ≡ histogram_of (Steps range) args
 IsValue function held args = ⊥
 
 -- how many arguments are held, as far as that is kept
