@@ -268,8 +268,8 @@ declared_decided : (space : Space) (line : ℕ) (name : List ℕ) (t : DeclaredT
 declared_decided space line name t keys rows aggs (Some slot) e = unmet _ _ _ _ (λ none. let never = sym e ∙ none in absurd cc)
 declared_decided space line name t keys rows aggs None e =
     met _ _ _ _ e _ (ruled _ (fault.Keys line) (at rows aggs) (with_nothing aggs) _
-    (λ last h. let p = within cause.Keys line (nat_le (length keys) 8) _ last h in (few_keys (length keys) p.0, refl, sym p.1))
-    (λ u later h. let few = are_few (length keys) h.0 in (later.rows, rw (few, h.2) refl, ap (λ (a : Aggs). (tt, at later.rows a)) (sym h.1)))
+    (λ last h. let p = within cause.Keys line (nat_le (length keys) 8) _ last h in ((few_keys (length keys) p.0, sym p.1), refl))
+    (λ u later h. let few = are_few (length keys) h.0.0 in (later.rows, rw (few, h.0.1) refl, ap (λ (a : Aggs). (tt, at later.rows a)) (sym h.1)))
     (λ h never. keys_fail (nat_le (length keys) 8) _ line h never))
 
 declaration_decided : (d : DeclarationTree) (rows : Rows) (aggs : Aggs) → Decides (rules.declaration d) (at rows aggs) (answer (with_nothing aggs) (walk.declaration rows d))

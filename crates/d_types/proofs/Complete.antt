@@ -59,7 +59,7 @@ reads_complete rows (v.Thread line name) ks z h = loads_complete s.Thread line n
 reads_complete rows (v.Clause line name) ks z h = loads_complete s.Clause line name rows ks z h
 
 indices_complete : (space : Space) (line : ℕ) (name : List ℕ) (rows : Rows) (t : Option DType) (ks : Typeds) (slot : ℕ) (last : Rows) →
-    IsSlotOf space name rows t ks slot last → slot_for space line name rows t ks (find space name rows) ≡ Ok (slot, last)
+    IsSlotOf space name t ks rows slot last → slot_for space line name rows t ks (find space name rows) ≡ Ok (slot, last)
 indices_complete space line name rows t ks slot last (inl h) = rw (h.0, h.1, h.2, h.3) refl
 indices_complete space line name rows t ks slot last (inr h) = rw (h.0, own_keys rows slot ks h.1, h.2) refl
 

@@ -187,7 +187,7 @@ abbrev Has : Rows → ℕ → Rows → Type 0
 Has rows slot after = Grows rows after × (slot < length after)
 
 indices_grow : (space : Space) (name : List ℕ) (rows : Rows) (t : Option DType) (keys : Typeds) (slot : ℕ) (after : Rows) →
-    IsSlotOf space name rows t keys slot after → Has rows slot after
+    IsSlotOf space name t keys rows slot after → Has rows slot after
 indices_grow space name rows t keys slot after (inl p) =
     subst (Has rows slot) (sym p.3) (push_grows rows (new_row space name t (kinds_of_typed keys)), subst (λ n. n < length (rows ++ new_row space name t (kinds_of_typed keys) ∷ [])) (sym p.2) (push_below rows (new_row space name t (kinds_of_typed keys))))
 indices_grow space name rows t keys slot after (inr p) =

@@ -2,7 +2,7 @@
 use Rattle.std.proofs.Common.{◌≡◌, ℕ, Bool, true, false, if◌then◌else◌, Result, Ok, Err, refl, sym, ap}
 use Rattle.std.proofs.Common.{◌∙◌, subst, inl, inr}
 use Rattle.d_types.specs.declared.fault.TypeFault.{TypeFault}
-use Rattle.d_types.specs.Checking.{Known, Checked, gives, refused, by_change, by_known, needs, ◌>>=◌}
+use Rattle.d_types.specs.Checking.{Known, Checked, gives, refused, by_change, by_rows, by_known, needs, ◌>>=◌}
 use Rattle.d_types.specs.Steps.Faults.{Fault, Cause, GlobalAssignment, Undeclared, Mismatch, Keys}
 use Rattle.d_types.specs.Steps.Faults.{AggregationRedefined, LquantizeBounds, PrintfArguments}
 use Rattle.d_types.specs.Steps.Faults.{ReadOnly, NoRegister, ◌>>=◌ as and_then}
@@ -165,7 +165,7 @@ module _ {B : Type 0} (IsSo : Known → Type 0) (fault : TypeFault) (known : Kno
 
 module _ {A : Type 0} (rows : Rows) (aggs : Aggs) (fault : TypeFault) (s : Result (A × Rows) Fault) (fails : (f : Fault) → s ≡ Err f → type_fault_of f ≡ fault) where
   pub of_rows : (Rule : Rows → A → Rows → Type 0) → ((x : A) (last : Rows) → s ≡ Ok (x, last) → Rule rows x last) → ((x : A) (last : Rows) → Rule rows x last → s ≡ Ok (x, last))
-      → Decides (by_change (λ known x after. Rule known.rows x after.rows × (after.aggs ≡ known.aggs)) fault) (at rows aggs) (answer (with_rows aggs) s)
+      → Decides (by_rows Rule fault) (at rows aggs) (answer (with_rows aggs) s)
   of_rows Rule sound complete =
       ruled (λ known x after. Rule known.rows x after.rows × (after.aggs ≡ known.aggs)) fault (at rows aggs) (with_rows aggs) s
       (λ x e. (sound x.0 x.1 e, refl))

@@ -153,7 +153,7 @@ allowed line cause false a slot m last h = cc
 allowed line cause true a slot m last h = let p = pair_is a slot m last h in (refl, p.0, p.1)
 
 indices_sound_at : (space : Space) (line : ℕ) (name : List ℕ) (rows : Rows) (t : Option DType) (ks : Typeds) (o : Option ℕ) (slot : ℕ) (last : Rows) →
-    find space name rows ≡ o → slot_for space line name rows t ks o ≡ Ok (slot, last) → IsSlotOf space name rows t ks slot last
+    find space name rows ≡ o → slot_for space line name rows t ks o ≡ Ok (slot, last) → IsSlotOf space name t ks rows slot last
 indices_sound_at space line name rows t ks None slot last p h =
     let q = allowed line _ _ _ slot _ last h in
     inl (p, q.0, q.1, q.2)

@@ -42,9 +42,9 @@ IsRead rows (Variable.Clause line name) keys z = IsLoad Space.Clause name rows k
 abbrev pub IsTargetOf : Rows → Variable → Option DType → Typeds → ℕ → Rows → Type 0
 IsTargetOf rows (Variable.Plain line name) t keys slot after = ⊥
 IsTargetOf rows (Variable.Thread line name) t keys slot after =
-    IsSlotOf Space.Thread name rows t keys slot after
+    IsSlotOf Space.Thread name t keys rows slot after
 IsTargetOf rows (Variable.Clause line name) t keys slot after =
-    IsSlotOf Space.Clause name rows t keys slot after
+    IsSlotOf Space.Clause name t keys rows slot after
 
 -- ---- expressions
 

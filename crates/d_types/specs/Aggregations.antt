@@ -1,7 +1,8 @@
 -- Aggregating functions: their bounds, what they take, and when one is known.
 -- Source: Dynamic Tracing Guide, "Aggregations".
-use Rattle.std.specs.Prelude.{ℕ, ◌+◌, ◌&&◌, nat_le, Bool, true, false, if◌then◌else◌, List}
-use Rattle.std.specs.Prelude.{[], ◌∷◌, Option, Some, None, ℤ, pos, neg_ℤ}
+use Rattle.std.specs.Prelude.{ℕ, ◌&&◌, nat_le, Bool, true, false, List, Option, Some, None, ℤ, pos}
+use Rattle.std.specs.Prelude.{neg_ℤ}
+use Rattle.std.specs.List.{find, enumerate_from}
 use Rattle.d_types.specs.Vocabulary.{bytes_eq, option_map, Int, Text, linear_range}
 use Rattle.d_types.specs.Vocabulary.{UnaryOperator, Constant, Tree, Trees, DType, AggFn}
 use Rattle.d_types.specs.Vocabulary.{Aggregating}
@@ -67,6 +68,4 @@ first (more x rest) = Some x
 
 -- the index of an aggregation, in a list whose first index is n, and what it is
 abbrev pub find_from : ℕ → List ℕ → Aggs → Option (ℕ × Agg)
-find_from n name [] = None
-find_from n name (a ∷ rest) =
-    if bytes_eq a.name name then Some (n, a) else find_from (n + 1) name rest
+find_from n name aggs = find (λ a. bytes_eq a.1.name name) (enumerate_from n aggs)

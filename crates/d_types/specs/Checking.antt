@@ -48,6 +48,11 @@ by_change Rule fault known (Ok r) = Rule known r.0 r.1
 by_change Rule fault known (Err f) =
     (¬ ((x : _) × (after : Known) × Rule known x after)) × (f ≡ fault)
 
+-- by a rule that changes no aggregation
+abbrev pub by_rows : {A : Type 0} → (Rows → A → Rows → Type 0) → TypeFault → Checked A
+by_rows Rule =
+    by_change (λ known x after. Rule known.rows x after.rows × (after.aggs ≡ known.aggs))
+
 -- by a rule that changes nothing
 abbrev pub by_known : {A : Type 0} → (Known → A → Type 0) → TypeFault → Checked A
 by_known Rule = by_change (λ known x after. Rule known x × (after ≡ known))
@@ -96,9 +101,7 @@ read (Variable.Clause line name) keys = read_own Space.Clause line name keys
 
 -- the slot of a variable that is assigned, which has this type from here on, if any
 abbrev pub target_own : Space → ℕ → List ℕ → Option DType → Typeds → Checked ℕ
-target_own space line name t keys =
-    by_change (λ known slot after. IsSlotOf space name known.rows t keys slot after.rows
-    × (after.aggs ≡ known.aggs)) (TypeFault.Keys line)
+target_own space line name t keys = by_rows (IsSlotOf space name t keys) (TypeFault.Keys line)
 
 -- a word alone is never assigned
 abbrev pub target : Variable → Option DType → Typeds → Checked ℕ
@@ -120,9 +123,7 @@ stepped line by answer v keys = do
 abbrev mutual
   pub expression : Tree → Checked Typed
   expression (Tree.Known line c) = gives (constant c)
-  expression (Tree.Read v keys) = do
-    ks ← expressions keys
-    read v ks
+  expression (Tree.Read v keys) = expressions keys >>= read v
   expression (Tree.Call line name args) = do
     xs ← expressions args
     needs (λ known. callee_named name ≢ None) (TypeFault.Undeclared line)
@@ -137,12 +138,9 @@ abbrev mutual
     x ← expression a
     by_rule (λ z. (t : IntType) × IsInteger x t × (z ≡ conversion_node t (int_type to) x))
         (TypeFault.Mismatch line)
-  expression (Tree.Before line by v keys) = do
-    ks ← expressions keys
-    stepped line by Answer.New v ks
-  expression (Tree.After v keys by) = do
-    ks ← expressions keys
-    stepped (line_of_variable v) by Answer.Old v ks
+  expression (Tree.Before line by v keys) = expressions keys >>= stepped line by Answer.New v
+  expression (Tree.After v keys by) =
+      expressions keys >>= stepped (line_of_variable v) by Answer.Old v
   expression (Tree.Binary op a b) = do
     x ← expression a
     y ← expression b
@@ -156,10 +154,7 @@ abbrev mutual
     ks ← expressions keys
     slot ← target v (type_at_once op) ks
     x ← expression a
-    by_change (λ known z after.
-        IsAssignment op (space_of v) slot ks x known.rows z after.rows
-        × (after.aggs ≡ known.aggs))
-        (TypeFault.Mismatch (line_of_variable v))
+    by_rows (IsAssignment op (space_of v) slot ks x) (TypeFault.Mismatch (line_of_variable v))
 
   pub expressions : Trees → Checked Typeds
   expressions Trees.end = gives end
@@ -185,9 +180,7 @@ wholes (Trees.more a rest) = do
 -- ---- statements
 
 abbrev pub evaluated : Tree → Checked Action
-evaluated t = do
-  x ← whole t
-  gives (Evaluate x)
+evaluated t = whole t >>= λ x. gives (Evaluate x)
 
 -- a format, which is a text constant, and an argument for each of its conversions
 abbrev pub printed : ℕ → Trees → Checked Action
@@ -196,9 +189,7 @@ printed line (Trees.more (Tree.Known at (Constant.Text format)) rest) = do
   by_rule (λ a. (ps : List Piece) × SpellsFormat ps format × (formats.fit ps xs ≡ true)
       × (a ≡ Print ps xs))
       (TypeFault.PrintfArguments line)
-printed line args = do
-  xs ← wholes args
-  refused (TypeFault.PrintfArguments line)
+printed line args = wholes args >> refused (TypeFault.PrintfArguments line)
 
 -- a call that is a whole statement is an action
 abbrev pub called : Option Callee → ℕ → List ℕ → Trees → Checked Action
@@ -272,9 +263,8 @@ clause c = do
 abbrev pub declared : Space → ℕ → List ℕ → DeclaredType → List DeclaredType → Checked (Unit {0})
 declared space line name t keys = do
   needs (λ known. find space name known.rows ≡ None) (TypeFault.Mismatch line)
-  by_change (λ known u after. (length keys ≤ MAX_KEYS) × (after.aggs ≡ known.aggs)
-      × (after.rows ≡ known.rows
-      ++ new_row space name (Some (declared_type t)) (declared_kinds keys) ∷ []))
+  by_rows (λ rows u after. (length keys ≤ MAX_KEYS)
+      × (after ≡ rows ++ new_row space name (Some (declared_type t)) (declared_kinds keys) ∷ []))
       (TypeFault.Keys line)
 
 abbrev pub declaration : DeclarationTree → Checked (Unit {0})
@@ -286,9 +276,7 @@ declaration (DeclarationTree.OfClause line t name) = declared Space.Clause line 
 -- declarations and clauses, in the order of the text
 abbrev pub items : List ItemTree → Checked (List ClauseMeant)
 items [] = gives []
-items (ItemTree.Declared d ∷ rest) = do
-  declaration d
-  items rest
+items (ItemTree.Declared d ∷ rest) = declaration d >> items rest
 items (ItemTree.Probing c ∷ rest) = do
   m ← clause c
   others ← items rest

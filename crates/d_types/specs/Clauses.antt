@@ -69,11 +69,10 @@ nothing_made vars = record { texts = []; contributions = []; exit = None; variab
 -- what two runs made, one after the other: the first exit counts, and the variables are those after
 -- the second
 abbrev pub and_then : Made → Made → Made
-and_then a b = record {
+and_then a b = record b {
   texts = a.texts ++ b.texts;
   contributions = a.contributions ++ b.contributions;
   exit = option_or a.exit b.exit;
-  variables = b.variables;
 }
 
 -- what a statement with this effect makes

@@ -49,8 +49,8 @@ IsChoice x y w z =
 -- ---- variables that are assigned
 
 -- the slot of a variable of this name, and the table with it: new, or with the keys that it had
-abbrev pub IsSlotOf : Space → List ℕ → Rows → Option DType → Typeds → ℕ → Rows → Type 0
-IsSlotOf space name rows t keys slot after =
+abbrev pub IsSlotOf : Space → List ℕ → Option DType → Typeds → Rows → ℕ → Rows → Type 0
+IsSlotOf space name t keys rows slot after =
     ((find space name rows ≡ None) × (nat_le (count keys) (most_keys space) ≡ true)
     × (slot ≡ length rows)
     × (after ≡ rows ++ new_row space name t (kinds_of_typed keys) ∷ []))

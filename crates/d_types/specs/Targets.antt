@@ -22,8 +22,7 @@ new_row space name t kinds = record { space = space; word = name; keys = kinds; 
 -- where a target is kept (a plain word never is)
 abbrev pub space_of : Variable → Space
 space_of (Variable.Clause line name) = Space.Clause
-space_of (Variable.Plain line name) = Space.Thread
-space_of (Variable.Thread line name) = Space.Thread
+space_of v = Space.Thread
 
 -- the type that an assignment gives its target at once
 abbrev pub type_at_once : AssignOperator → Option DType
