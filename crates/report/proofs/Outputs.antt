@@ -11,10 +11,10 @@ use Rattle.report.specs.Entry.{Entry}
 use Rattle.report.specs.Listing.{IsListing, listing_bytes}
 use Rattle.report.specs.Steps.Listing.{AppendsListing}
 use Rattle.report.proofs.Listings.{listing_exists}
-use Rattle.report.specs.Output.{IsOutput, Shows}
+use Rattle.report.specs.Output.{IsOutput}
 use Rattle.report.specs.Steps.Output.{AppendsTables}
 
-pub shows_none : (contributions : List Contribution) (bytes : List ℕ) → bytes ≡ [] → Shows [] contributions bytes
+pub shows_none : (contributions : List Contribution) (bytes : List ℕ) → bytes ≡ [] → IsOutput [] [] contributions bytes
 shows_none contributions bytes none = record { listings = []; listed = tt; joined = none }
 
 -- one more listing
@@ -29,8 +29,8 @@ listed_push Is n (f ∷ functions) (l ∷ listings) function entries all own =
     (all.0, listed_push Is (n + 1) functions listings function entries all.1 (subst (λ k. Is (k, function) entries) e own))
 
 module _ (contributions : List Contribution) where
-  pub shows_push : (functions : List AggFn) (function : AggFn) (before after : List ℕ) → Shows functions contributions before
-      → AppendsListing function (length functions) contributions before after → Shows (functions ++ function ∷ []) contributions after
+  pub shows_push : (functions : List AggFn) (function : AggFn) (before after : List ℕ) → IsOutput functions [] contributions before
+      → AppendsListing function (length functions) contributions before after → IsOutput (functions ++ function ∷ []) [] contributions after
   shows_push functions function before after shown more =
       let e : length functions ≡ 0 + length functions = omega arith in
       record {
@@ -42,13 +42,13 @@ module _ (contributions : List Contribution) where
 
   pub shows_more : (functions : List AggFn) (agg : ℕ) (before after : List ℕ) → agg < length functions
       → ((function : AggFn) → slice_get functions agg ≡ Some function → AppendsListing function agg contributions before after)
-      → Shows (take agg functions) contributions before → Shows (take (agg + 1) functions) contributions after
+      → IsOutput (take agg functions) [] contributions before → IsOutput (take (agg + 1) functions) [] contributions after
   shows_more [] agg before after within more shown = absurd (omega arith)
   shows_more (f ∷ functions) agg before after within more shown =
       let here : AggFn = get_or (f ∷ functions) agg f in
       let size : length (take agg (f ∷ functions)) ≡ agg = length-take-le agg (f ∷ functions) (omega arith) in
       let own = more here (slice_get-get_or (f ∷ functions) agg f within) in
-      subst (λ fs. Shows fs contributions after) (sym (take_more (f ∷ functions) agg f within))
+      subst (λ fs. IsOutput fs [] contributions after) (sym (take_more (f ∷ functions) agg f within))
       (shows_push (take agg (f ∷ functions)) here before after shown (subst (λ n. AppendsListing here n contributions before after) (sym size) own))
 
   -- bytes before the aggregations stay
@@ -77,19 +77,20 @@ module _ (contributions : List Contribution) where
 
   -- ---- there is an output
 
-  tables_from : (done rest : List AggFn) (before : List ℕ) → Shows done contributions before → (bytes : List ℕ) × Shows (done ++ rest) contributions bytes
-  tables_from done [] before shown = (before, subst (λ fs. Shows fs contributions before) (sym (append-nil done)) shown)
+  tables_from : (done rest : List AggFn) (before : List ℕ) → IsOutput done [] contributions before → (bytes : List ℕ) × IsOutput (done ++ rest) [] contributions bytes
+  tables_from done [] before shown = (before, subst (λ fs. IsOutput fs [] contributions before) (sym (append-nil done)) shown)
   tables_from done (f ∷ rest) before shown =
       let listing = listing_exists f (length done) contributions in
       let more : AppendsListing f (length done) contributions before (before ++ listing_bytes listing.0) = record { entries = listing.0; listing = listing.1; bytes = refl } in
       let all = tables_from (done ++ f ∷ []) rest (before ++ listing_bytes listing.0) (shows_push done f before (before ++ listing_bytes listing.0) shown more) in
-      (all.0, subst (λ fs. Shows fs contributions all.0) (append_assoc done (f ∷ []) rest) all.1)
+      (all.0, subst (λ fs. IsOutput fs [] contributions all.0) (append_assoc done (f ∷ []) rest) all.1)
 
   pub output_exists : (functions : List AggFn) (texts : List (ℕ × List ℕ)) → (bytes : List ℕ) × IsOutput functions texts contributions bytes
   output_exists functions texts =
       let all = tables_from [] functions [] (shows_none contributions [] refl) in
-      (flat_map (λ text. text.1) texts ++ all.0, record { tables = all.0; shown = all.1; joined = refl })
+      (flat_map (λ text. text.1) texts ++ all.0, record { listings = all.1.listings; listed = all.1.listed; joined = ap (λ tables. flat_map (λ text. text.1) texts ++ tables) all.1.joined })
 
   pub output_after : (functions : List AggFn) (texts : List (ℕ × List ℕ)) (bytes : List ℕ) → AppendsTables functions contributions (flat_map (λ text. text.1) texts) bytes
       → IsOutput functions texts contributions bytes
-  output_after functions texts bytes after = record { tables = after.tables; shown = after.shown; joined = after.joined }
+  output_after functions texts bytes after =
+      record { listings = after.shown.listings; listed = after.shown.listed; joined = after.joined ∙ ap (λ tables. flat_map (λ text. text.1) texts ++ tables) after.shown.joined }

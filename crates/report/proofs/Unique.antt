@@ -19,7 +19,7 @@ use Rattle.aggregations.specs.declared.function.AggFn.{AggFn}
 use Rattle.aggregations.proofs.EntryLemmas.{one_entry}
 use Rattle.report.specs.Entry.{Entry}
 use Rattle.report.specs.Listing.{IsListing, listing_bytes}
-use Rattle.report.specs.Output.{IsOutput, Shows}
+use Rattle.report.specs.Output.{IsOutput}
 use Rattle.report.proofs.Listings.{entry_cmp_total}
 
 -- ---- lists that rise
@@ -86,11 +86,9 @@ same_listings contributions n (f ∷ fs) (x ∷ xs) [] a b = absurd b
 same_listings contributions n (f ∷ fs) (x ∷ xs) (y ∷ ys) a b =
     ap (λ l. l ∷ xs) (one_listing f n contributions x y a.0 b.0) ∙ ap (λ ls. y ∷ ls) (same_listings contributions (n + 1) fs xs ys a.1 b.1)
 
-same_tables : (functions : List AggFn) (contributions : List Contribution) (xs ys : List ℕ) → Shows functions contributions xs → Shows functions contributions ys → xs ≡ ys
-same_tables functions contributions xs ys x_shown y_shown =
-    x_shown.joined ∙ ap (flat_map listing_bytes) (same_listings contributions 0 functions x_shown.listings y_shown.listings x_shown.listed y_shown.listed) ∙ sym y_shown.joined
-
 pub one_output : (functions : List AggFn) (texts : List (ℕ × List ℕ)) (contributions : List Contribution) (xs ys : List ℕ)
     → IsOutput functions texts contributions xs → IsOutput functions texts contributions ys → xs ≡ ys
 one_output functions texts contributions xs ys x_is y_is =
-    x_is.joined ∙ ap (λ tables. flat_map (λ text. text.1) texts ++ tables) (same_tables functions contributions x_is.tables y_is.tables x_is.shown y_is.shown) ∙ sym y_is.joined
+    x_is.joined
+    ∙ ap (λ listings. flat_map (λ text. text.1) texts ++ flat_map listing_bytes listings) (same_listings contributions 0 functions x_is.listings y_is.listings x_is.listed y_is.listed)
+    ∙ sym y_is.joined

@@ -1,16 +1,11 @@
 -- Columns of a fixed width. Widths count bytes, and nothing is cut.
 use Rattle.std.specs.Prelude.{ℕ, ◌-◌, ◌≤◌, List, ◌++◌, length, replicate}
+use Rattle.std.specs.Str.{byte}
 use Rattle.report.specs.Vocabulary.{KeyPart, Number, Name, signed_decimal}
-
-abbrev pub space : ℕ
-space = 32
-
-abbrev pub line_feed : ℕ
-line_feed = 10
 
 -- this many spaces
 abbrev pub spaces : ℕ → List ℕ
-spaces count = replicate count space
+spaces count = replicate count (byte " ")
 
 -- the text at the right of a column of this width
 abbrev pub at_right : ℕ → List ℕ → List ℕ

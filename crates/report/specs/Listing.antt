@@ -4,8 +4,8 @@ use Rattle.std.specs.Prelude.{◌≡◌, ◌⊎◌, ◌<ℤ◌, ℕ, List, [], �
 use Rattle.report.specs.Vocabulary.{AggFn, Contribution, AreEntries, figure_of, rank_of}
 use Rattle.report.specs.Vocabulary.{IsStrictlySortedBy, Less, Ordering, int_cmp, ordering_then}
 use Rattle.report.specs.Vocabulary.{flat_map, key_cmp}
-use Rattle.report.specs.Columns.{line_feed}
 use Rattle.report.specs.Entry.{Entry, entry_bytes}
+use Rattle.std.specs.Str.{byte}
 
 -- the number by which an entry is ordered
 abbrev pub entry_rank : Entry → ℤ
@@ -29,4 +29,4 @@ pub record IsListing (function : AggFn) (agg : ℕ) (contributions : List Contri
 -- a line feed and the entries; an aggregation without entries isn't shown
 abbrev pub listing_bytes : List Entry → List ℕ
 listing_bytes [] = []
-listing_bytes (e ∷ es) = line_feed ∷ flat_map entry_bytes (e ∷ es)
+listing_bytes (e ∷ es) = byte "\n" ∷ flat_map entry_bytes (e ∷ es)

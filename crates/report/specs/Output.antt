@@ -6,19 +6,12 @@ use Rattle.report.specs.Vocabulary.{AggFn, Contribution, enumerate_from, flat_ma
 use Rattle.report.specs.Entry.{Entry}
 use Rattle.report.specs.Listing.{IsListing, listing_bytes}
 
--- the bytes show the aggregations with these functions that the contributions make
-pub record Shows (functions : List AggFn) (contributions : List Contribution)
-    (bytes : List ℕ) : Type 0 where
+-- the bytes of the texts, each with its firing's number, in order, and then the aggregations with
+-- these functions that the contributions make
+pub record IsOutput (functions : List AggFn) (texts : List (ℕ × List ℕ))
+    (contributions : List Contribution) (bytes : List ℕ) : Type 0 where
   -- the entries of each aggregation, in order
   pub listings : List (List Entry)
   pub listed : AllZip (λ agg entries. IsListing agg.1 agg.0 contributions entries)
       (enumerate_from 0 functions) listings
-  -- one after the other
-  pub joined : bytes ≡ flat_map listing_bytes listings
-
--- the bytes of the texts, each with its firing's number, in order, and then the aggregations
-pub record IsOutput (functions : List AggFn) (texts : List (ℕ × List ℕ))
-    (contributions : List Contribution) (bytes : List ℕ) : Type 0 where
-  pub tables : List ℕ
-  pub shown : Shows functions contributions tables
-  pub joined : bytes ≡ flat_map (λ text. text.1) texts ++ tables
+  pub joined : bytes ≡ flat_map (λ text. text.1) texts ++ flat_map listing_bytes listings
