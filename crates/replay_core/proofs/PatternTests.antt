@@ -7,8 +7,8 @@ use Rattle.std.specs.List.{list_all, zip}
 use Rattle.std.proofs.lemmas.Bool.Decides.{Decides-eqb}
 use Rattle.d_parser.specs.declared.tree.Description.{Description}
 use Rattle.firings.specs.declared.unit.Probe.{Probe}
-use Rattle.replay_core.specs.Patterns.{Selects, selects, Takes, Matches, MatchesField, star}
-use Rattle.replay_core.specs.Patterns.{question, is_same_or_question, passes_after}
+use Rattle.replay_core.specs.Patterns.{Selects, selects, Takes, Matches, MatchesField}
+use Rattle.replay_core.specs.Patterns.{is_same_or_question, passes_after}
 use Rattle.replay_core.specs.Steps.Patterns.{is_plain}
 use Rattle.replay_core.specs.Patterns.{passes_after_one, matches, field_matches}
 
@@ -49,13 +49,13 @@ same_test false false x y = refl
 same_takes : (p b : ℕ) → is_same_or_question (p, b) ≡ true → Takes p (b ∷ [])
 same_takes p b e = ⊎_elim
     (λ (x : (p == b) ≡ true). Takes.itself (ap (λ n. n ∷ []) (sym ((Decides-eqb p b).0 x))))
-    (λ (x : (p == question) ≡ true). Takes.one b ((Decides-eqb p question).0 x) refl)
-    (or_cases (p == b) (p == question) e)
+    (λ (x : (p == 63) ≡ true). Takes.one b ((Decides-eqb p 63).0 x) refl)
+    (or_cases (p == b) (p == 63) e)
 
 takes_same : (p b : ℕ) → p ≢ 42 → Takes p (b ∷ []) → is_same_or_question (p, b) ≡ true
 takes_same p b plain (Takes.any e) = absurd (plain e)
-takes_same p b plain (Takes.one c q e) = or_right (p == b) (p == question) ((Decides-eqb p question).1 q)
-takes_same p b plain (Takes.itself e) = let same : p ≡ b = cc in or_left (p == b) (p == question) ((Decides-eqb p b).1 same)
+takes_same p b plain (Takes.one c q e) = or_right (p == b) (p == 63) ((Decides-eqb p 63).1 q)
+takes_same p b plain (Takes.itself e) = let same : p ≡ b = cc in or_left (p == b) (p == 63) ((Decides-eqb p b).1 same)
 
 -- what takes one byte, and that byte
 takes_byte : (p : ℕ) (own : List ℕ) → p ≢ 42 → Takes p own → (b : ℕ) × (own ≡ b ∷ [])
@@ -100,8 +100,8 @@ match_itself [] = refl
 match_itself (p ∷ pattern) = (p ∷ [], pattern, refl, Takes.itself refl, match_itself pattern)
 
 plain_takes : (p : ℕ) (own : List ℕ) → is_plain p ≡ true → Takes p own → own ≡ p ∷ []
-plain_takes p own plain (Takes.any e) = absurd (not_true (p == star) (and_parts (not (p == star)) (not (p == question)) plain).0 ((Decides-eqb p star).1 e))
-plain_takes p own plain (Takes.one b q e) = absurd (not_true (p == question) (and_parts (not (p == star)) (not (p == question)) plain).1 ((Decides-eqb p question).1 q))
+plain_takes p own plain (Takes.any e) = absurd (not_true (p == 42) (and_parts (not (p == 42)) (not (p == 63)) plain).0 ((Decides-eqb p 42).1 e))
+plain_takes p own plain (Takes.one b q e) = absurd (not_true (p == 63) (and_parts (not (p == 42)) (not (p == 63)) plain).1 ((Decides-eqb p 63).1 q))
 plain_takes p own plain (Takes.itself e) = e
 
 literal_is : (pattern text : List ℕ) → list_all is_plain pattern ≡ true → Matches pattern text → pattern ≡ text
@@ -139,30 +139,30 @@ one_there p pattern (b ∷ text) more e =
     let both = and_parts (is_same_or_question (p, b)) (matches pattern text) e in
     (b ∷ [], text, refl, same_takes p b both.0, more text both.1)
 
-star_there : (p : ℕ) (pattern text : List ℕ) → ((rest : List ℕ) → matches pattern rest ≡ true → Matches pattern rest) → p ≡ star → passes_after (matches pattern) text ≡ true → Matches (p ∷ pattern) text
+star_there : (p : ℕ) (pattern text : List ℕ) → ((rest : List ℕ) → matches pattern rest ≡ true → Matches pattern rest) → p ≡ 42 → passes_after (matches pattern) text ≡ true → Matches (p ∷ pattern) text
 star_there p pattern text more is e = let r = after_there (matches pattern) text e in (r.0, r.1, r.2, Takes.any is, more r.1 r.3)
 
-step_there : (p : ℕ) (pattern text : List ℕ) (c : Bool) → (p == star) ≡ c → ((rest : List ℕ) → matches pattern rest ≡ true → Matches pattern rest)
+step_there : (p : ℕ) (pattern text : List ℕ) (c : Bool) → (p == 42) ≡ c → ((rest : List ℕ) → matches pattern rest ≡ true → Matches pattern rest)
     → cond c (passes_after (matches pattern) text) (passes_after_one p (matches pattern) text) ≡ true → Matches (p ∷ pattern) text
-step_there p pattern text true is more e = star_there p pattern text more ((Decides-eqb p star).0 is) e
+step_there p pattern text true is more e = star_there p pattern text more ((Decides-eqb p 42).0 is) e
 step_there p pattern text false is more e = one_there p pattern text more e
 
 pub matches_there : (pattern text : List ℕ) → matches pattern text ≡ true → Matches pattern text
 matches_there [] [] e = refl
 matches_there [] (b ∷ text) e = cc
-matches_there (p ∷ pattern) text e = step_there p pattern text (p == star) refl (matches_there pattern) e
+matches_there (p ∷ pattern) text e = step_there p pattern text (p == 42) refl (matches_there pattern) e
 
-step_back : (p : ℕ) (pattern text : List ℕ) (c : Bool) → (p == star) ≡ c → ((rest : List ℕ) → Matches pattern rest → matches pattern rest ≡ true)
+step_back : (p : ℕ) (pattern text : List ℕ) (c : Bool) → (p == 42) ≡ c → ((rest : List ℕ) → Matches pattern rest → matches pattern rest ≡ true)
     → Matches (p ∷ pattern) text → cond c (passes_after (matches pattern) text) (passes_after_one p (matches pattern) text) ≡ true
 step_back p pattern text true is more m = after_back (matches pattern) text m.0 m.1 m.2 (more m.1 m.4)
 step_back p pattern text false is more m =
-    let plain : p ≢ 42 = λ e. let x = (Decides-eqb p star).1 e in cc in
+    let plain : p ≢ 42 = λ e. let x = (Decides-eqb p 42).1 e in cc in
     passes_one p (matches pattern) m.0 m.1 text plain m.3 m.2 (more m.1 m.4)
 
 pub matches_back : (pattern text : List ℕ) → Matches pattern text → matches pattern text ≡ true
 matches_back [] [] m = refl
 matches_back [] (b ∷ text) m = cc
-matches_back (p ∷ pattern) text m = step_back p pattern text (p == star) refl (matches_back pattern) m
+matches_back (p ∷ pattern) text m = step_back p pattern text (p == 42) refl (matches_back pattern) m
 
 pub matches_is : (pattern text : List ℕ) → IsTrue (matches pattern text) ↔ Matches pattern text
 matches_is pattern text = (matches_there pattern text, matches_back pattern text)

@@ -2,21 +2,16 @@
 -- Source: Dynamic Tracing Guide, "Probe Descriptions".
 use Rattle.std.specs.Prelude.{◌≡◌, ◌⊎◌, ◌==◌, ◌&&◌, ◌||◌, ℕ, Bool, true, false, if◌then◌else◌, List}
 use Rattle.std.specs.Prelude.{[], ◌∷◌, ◌++◌}
+use Rattle.std.specs.Str.{byte}
 pub use Rattle.firings.specs.Probing.{probe_of}
 use Rattle.firings.specs.declared.unit.Probe.{Probe}
 use Rattle.d_parser.specs.declared.tree.Description.{Description}
 
-abbrev pub star : ℕ
-star = 42
-
-abbrev pub question : ℕ
-question = 63
-
 -- the bytes that one byte of a pattern takes: a star any, none included, a question mark one, and
 -- any other byte itself
 pub data Takes (p : ℕ) (own : List ℕ) : Type 0 where
-  any : p ≡ star → Takes p own
-  one : (b : ℕ) → p ≡ question → own ≡ b ∷ [] → Takes p own
+  any : p ≡ byte "*" → Takes p own
+  one : (b : ℕ) → p ≡ byte "?" → own ≡ b ∷ [] → Takes p own
   itself : own ≡ p ∷ [] → Takes p own
 
 -- the bytes of the pattern take those of the text, one after the other
@@ -42,7 +37,7 @@ passes_after test [] = test []
 passes_after test (b ∷ text) = test (b ∷ text) || passes_after test text
 
 abbrev pub is_same_or_question : ℕ × ℕ → Bool
-is_same_or_question pair = (pair.0 == pair.1) || (pair.0 == question)
+is_same_or_question pair = (pair.0 == pair.1) || (pair.0 == byte "?")
 
 -- p takes the first byte, and the test passes after it
 abbrev pub passes_after_one : ℕ → (List ℕ → Bool) → List ℕ → Bool
@@ -53,7 +48,7 @@ abbrev pub matches : (pattern text : List ℕ) → Bool
 matches [] [] = true
 matches [] (b ∷ text) = false
 matches (p ∷ pattern) text =
-    if p == star
+    if p == byte "*"
     then passes_after (matches pattern) text
     else passes_after_one p (matches pattern) text
 
