@@ -1,11 +1,12 @@
 -- Cells of a table of words.
-use Rattle.std.specs.Prelude.{◌==◌, ◌≡◌, ◌<◌, ◌≤◌, ◌^◌, ℕ, Bool, true, false, ◌&&◌, List, [], ◌∷◌}
+use Rattle.std.specs.Prelude.{◌==◌, ◌≡◌, ◌<◌, ◌≤◌, ◌^◌, ℕ, true, false, ◌&&◌, List, [], ◌∷◌}
 use Rattle.std.specs.Prelude.{length, map, Some, if◌then◌else◌, slice_get}
 use Rattle.std.proofs.Common.{refl, sym, ap, subst, ◌∙◌, arith, get_or, true≢false}
 use Rattle.std.specs.Cmp.{signed_Decides}
 use Rattle.std.specs.Cmp.Derive.{both_true}
 use Rattle.std.specs.List.{All, position_or_len}
-use Rattle.std.proofs.lemmas.Bool.Decides.{Decides-eqb, Decides-ltb}
+use Rattle.std.proofs.lemmas.Bool.{and_parts, cond-true, cond-false, cond_both, eqb-false, false_from_ne_true}
+use Rattle.std.proofs.lemmas.Bool.Decides.{Decides-eqb, Decides-ltb, not_from_Decides}
 use Rattle.std.proofs.lemmas.Int.{of_z-to_z}
 use Rattle.std.proofs.lemmas.List.{length-map}
 use Rattle.std.proofs.lemmas.List.Sums.{position_or_len_is, passes_at_first}
@@ -26,14 +27,9 @@ use Rattle.numbered.specs.declared.word.Word.TheVariants as word
 use Rattle.numbered.proofs.Indices.{same_words_decides}
 use Rattle.dif_machine.specs.Vocabulary.{cast_signed, cast_unsigned, w64, Kind, KeyPart, Number, Name, Var}
 use Rattle.dif_machine.specs.Machine.{IsWithin, key_in, value_of}
-use Rattle.dif_machine.specs.CellLaws.{second_true}
 use Rattle.numbered.specs.Shapes.{shape_of}
 use Rattle.numbered.proofs.Shaped.{digits_same, shape_below}
 use Rattle.dif_machine.specs.Cells.{words_beside, cell_key, cell_of, is_of_word, word_of_part, words_of, own_in, IsTableOver}
-
-first_true : (a b : Bool) → a && b ≡ true → a ≡ true
-first_true true b e = refl
-first_true false b e = e
 
 -- ---- keys of cells tell variables and words apart
 
@@ -64,27 +60,23 @@ module _ (texts : List (List ℕ)) where
       let is : is_of_word (cast_signed w64 n) ≡ true = both_true
       ((signed_Decides (cast_signed w64 (cast_unsigned w64 (cast_signed w64 n))) (cast_signed w64 n)).1 (ap (cast_signed w64) back))
       ((Decides-ltb (cast_unsigned w64 (cast_signed w64 n)) (2 ^ 64)).1 (subst (λ m. m < 2 ^ 64) (sym back) h)) in
-      ap (λ b. if b then word.Int (cast_unsigned w64 (cast_signed w64 n)) else word.Text (length texts)) is ∙ ap word.Int back
+      cond-true _ (word.Int (cast_unsigned w64 (cast_signed w64 n))) (word.Text (length texts)) is ∙ ap word.Int back
   part_word distinct (word.Text t) h =
       ap word.Text (position_or_len_is (same_text (text_at texts t)) texts t [] (omega (arith, h)) before (λ i. (same_text_decides (text_at texts t) (text_at texts t)).1 refl))
     where
       before : (k : ℕ) → k < t → same_text (text_at texts t) (get_or texts k []) ≡ false
-      before k less = elim (same_text (text_at texts t) (get_or texts k [])) as (λ b. same_text (text_at texts t) (get_or texts k []) ≡ b → b ≡ false) [
-        | true ↦ λ e.
-            let same = (same_text_decides (text_at texts t) (get_or texts k [])).0 e in
-            let first : slice_get texts k ≡ Some (text_at texts k) = slice_get-get_or texts k [] (omega (arith, less, h)) in
-            let second : slice_get texts t ≡ Some (text_at texts k) = slice_get-get_or texts t [] h ∙ ap Some same in
-            let one : k ≡ t = distinct k t (text_at texts k) first second in
-            absurd (omega (arith, less, one))
-        | false ↦ λ e. refl
-      ] refl
+      before k less = false_from_ne_true _ (λ e.
+          let same = (same_text_decides (text_at texts t) (get_or texts k [])).0 e in
+          let first : slice_get texts k ≡ Some (text_at texts k) = slice_get-get_or texts k [] (omega (arith, less, h)) in
+          let second : slice_get texts t ≡ Some (text_at texts k) = slice_get-get_or texts t [] h ∙ ap Some same in
+          let one : k ≡ t = distinct k t (text_at texts k) first second in
+          omega (arith, less, one))
 
   pub word_part : (p : KeyPart) → IsWithin texts (word_of_part texts p) → part_of (value_of texts (word_of_part texts p)) ≡ p
-  word_part (Number z) h = elim (is_of_word z) as (λ b. is_of_word z ≡ b → IsWithin texts (if b then word.Int (cast_unsigned w64 z) else word.Text (length texts))
-      → part_of (value_of texts (if b then word.Int (cast_unsigned w64 z) else word.Text (length texts))) ≡ Number z) [
-        | true ↦ λ e i. ap Number ((signed_Decides (cast_signed w64 (cast_unsigned w64 z)) z).0 (first_true _ _ e))
-        | false ↦ λ e i. absurd (omega (arith, i))
-      ] refl h
+  word_part (Number z) h =
+      cond_both (is_of_word z) (word.Int (cast_unsigned w64 z)) (word.Text (length texts)) (λ w. IsWithin texts w → part_of (value_of texts w) ≡ Number z)
+      (λ e i. ap Number ((signed_Decides (cast_signed w64 (cast_unsigned w64 z)) z).0 (and_parts _ _ e).0))
+      (λ e i. absurd (omega (arith, i))) h
   word_part (Name bytes) h =
       ap Name (sym ((same_text_decides bytes (text_at texts (position_or_len (same_text bytes) texts))).0 (passes_at_first (same_text bytes) texts [] h)))
 
@@ -102,61 +94,43 @@ module _ (texts : List (List ℕ)) where
 
 -- ---- a cell that is set
 
-chosen : (b : Bool) → b ≡ true → (m n : ℕ) → (if b then m else n) ≡ m
-chosen true e m n = refl
-chosen false e m n = absurd (true≢false (sym e))
-
-other : (b : Bool) → b ≡ false → (m n : ℕ) → (if b then m else n) ≡ n
-other true e m n = absurd (true≢false e)
-other false e m n = refl
-
 module _ (texts : List (List ℕ)) (old new : Entries) (thread : ℕ) (x : Var) (words : List Word) (w : Word) (distinct : AreDistinct texts) (t : IsTableOver texts old) (few : length words ≤ 8)
     (all : All (IsWithin texts) words) (within : IsWithin texts w) (kind_is : word_of x.kind (bits_of w) ≡ w) (set : word_in new ≡ with_word (word_in old) (cell_key thread x words) (bits_of w)) where
-  now_is : (key : List ℕ) → word_in new key ≡ with_word (word_in old) (cell_key thread x words) (bits_of w) key
-  now_is key = ap (λ f. f key) set
+  abbrev cell : List ℕ
+  cell = cell_key thread x words
+
+  now_is : (P : ℕ → Type 0) (key : List ℕ) → (cell ≡ key → P (bits_of w)) → ((cell ≡ key → ⊥) → P (word_in old key)) → P (word_in new key)
+  now_is P key here elsewhere =
+      subst (λ f. P (f key)) (sym set)
+      (cond_both (same_words cell key) (bits_of w) (word_in old key) P (λ e. here ((same_words_decides cell key).0 e)) (λ e. elsewhere (not_from_Decides _ (same_words_decides cell key) e)))
 
   pub table_set : IsTableOver texts new
   table_set = record {
     empty = t.empty;
-    keys = λ u y ws no. elim (same_words (cell_key thread x words) (cell_key u y ws)) as (λ b. same_words (cell_key thread x words) (cell_key u y ws) ≡ b → word_in new (cell_key u y ws) ≡ 0) [
-      | true ↦ λ e.
-          let same = keys_same thread u x y words ws few ((same_words_decides (cell_key thread x words) (cell_key u y ws)).0 e) in
-          absurd (no (subst (All (IsWithin texts)) same.1 all))
-      | false ↦ λ e. now_is (cell_key u y ws) ∙ other _ e (bits_of w) (word_in old (cell_key u y ws)) ∙ t.keys u y ws no
-    ] refl;
-    values = λ u y ws. elim (same_words (cell_key thread x words) (cell_key u y ws)) as (λ b. same_words (cell_key thread x words) (cell_key u y ws) ≡ b → IsWithin texts (word_of y.kind (word_in new (cell_key u y ws)))) [
-      | true ↦ λ e.
-          let same = keys_same thread u x y words ws few ((same_words_decides (cell_key thread x words) (cell_key u y ws)).0 e) in
-          let is : word_in new (cell_key u y ws) ≡ bits_of w = now_is (cell_key u y ws) ∙ chosen _ e (bits_of w) (word_in old (cell_key u y ws)) in
-          subst (λ n. IsWithin texts (word_of y.kind n)) (sym is) (subst (λ v. IsWithin texts (word_of v.kind (bits_of w))) same.0 (subst (IsWithin texts) (sym kind_is) within))
-      | false ↦ λ e. subst (λ n. IsWithin texts (word_of y.kind n)) (sym (now_is (cell_key u y ws) ∙ other _ e (bits_of w) (word_in old (cell_key u y ws)))) (t.values u y ws)
-    ] refl;
+    keys = λ u y ws no. now_is (λ n. n ≡ 0) (cell_key u y ws) (λ e. absurd (no (subst (All (IsWithin texts)) (keys_same thread u x y words ws few e).1 all))) (λ ne. t.keys u y ws no);
+    values = λ u y ws. now_is (λ n. IsWithin texts (word_of y.kind n)) (cell_key u y ws)
+        (λ e. subst (λ v. IsWithin texts (word_of v.kind (bits_of w))) (keys_same thread u x y words ws few e).0 (subst (IsWithin texts) (sym kind_is) within)) (λ ne. t.values u y ws);
   }
 
   here : own_in texts new thread x (key_in texts words) ≡ value_of texts w
   here =
       ap (λ ws. value_of texts (word_of x.kind (word_in new (cell_key thread x ws)))) (parts_words texts distinct words all)
-      ∙ ap (λ n. value_of texts (word_of x.kind n)) (now_is (cell_key thread x words) ∙ chosen _ ((same_words_decides (cell_key thread x words) (cell_key thread x words)).1 refl) (bits_of w) (word_in old (cell_key thread x words)))
-      ∙ ap (value_of texts) kind_is
+      ∙ now_is (λ n. value_of texts (word_of x.kind n) ≡ value_of texts w) cell (λ e. ap (value_of texts) kind_is) (λ ne. absurd (ne refl))
 
   elsewhere : (y : Var) (key : List KeyPart) → same_var x y && same_key (key_in texts words) key ≡ false → own_in texts new thread y key ≡ own_in texts old thread y key
-  elsewhere y key apart = elim (same_words (cell_key thread x words) (cell_key thread y (words_of texts key))) as (λ b. same_words (cell_key thread x words) (cell_key thread y (words_of texts key)) ≡ b → own_in texts new thread y key ≡ own_in texts old thread y key) [
-    | true ↦ λ e.
-        let same = keys_same thread thread x y words (words_of texts key) few ((same_words_decides (cell_key thread x words) (cell_key thread y (words_of texts key))).0 e) in
-        let key_is : key_in texts words ≡ key = ap (key_in texts) same.1 ∙ words_parts texts key (subst (All (IsWithin texts)) same.1 all) in
-        absurd (true≢false (sym (both_true ((same_var_decides x y).1 same.0) ((same_key_decides (key_in texts words) key).1 key_is)) ∙ apart))
-    | false ↦ λ e. ap (λ n. value_of texts (word_of y.kind n)) (now_is (cell_key thread y (words_of texts key)) ∙ other _ e (bits_of w) (word_in old (cell_key thread y (words_of texts key))))
-  ] refl
+  elsewhere y key apart = now_is (λ n. value_of texts (word_of y.kind n) ≡ own_in texts old thread y key) (cell_key thread y (words_of texts key))
+      (λ e.
+      let same = keys_same thread thread x y words (words_of texts key) few e in
+      let key_is : key_in texts words ≡ key = ap (key_in texts) same.1 ∙ words_parts texts key (subst (All (IsWithin texts)) same.1 all) in
+      absurd (true≢false (sym (both_true ((same_var_decides x y).1 same.0) ((same_key_decides (key_in texts words) key).1 key_is)) ∙ apart)))
+      (λ ne. refl)
 
   pub own_set : own_in texts new thread ≡ with_own (own_in texts old thread) x (key_in texts words) (value_of texts w)
-  own_set i y key = by (same_var x y && same_key (key_in texts words) key) refl i
-    where
-      by : (b : Bool) → same_var x y && same_key (key_in texts words) key ≡ b → own_in texts new thread y key ≡ (if b then value_of texts w else own_in texts old thread y key)
-      by true e =
-          let var = (same_var_decides x y).0 (first_true _ _ e) in
-          let key_is = (same_key_decides (key_in texts words) key).0 (second_true _ _ e) in
-          ap (λ k. own_in texts new thread y k) (sym key_is) ∙ ap (λ v. own_in texts new thread v (key_in texts words)) (sym var) ∙ here
-      by false e = elsewhere y key e
+  own_set i y key = cond_both (same_var x y && same_key (key_in texts words) key) (value_of texts w) (own_in texts old thread y key) (λ v. own_in texts new thread y key ≡ v)
+      (λ e.
+      let both = and_parts _ _ e in
+      ap (own_in texts new thread y) (sym ((same_key_decides (key_in texts words) key).0 both.1)) ∙ ap (λ v. own_in texts new thread v (key_in texts words)) (sym ((same_var_decides x y).0 both.0)) ∙ here)
+      (elsewhere y key) i
 
 pub kind_word : (texts : List (List ℕ)) (k : Kind) (w : Word) → kind_of (value_of texts w) ≡ k → word_of k (bits_of w) ≡ w
 kind_word texts kind.Number (word.Int n) e = refl
@@ -193,13 +167,7 @@ beside_set old new thread x words bits set = λ i key. is key i
     is [] = refl
     is (other ∷ key) = elim (other == thread) as (λ b. (other == thread) ≡ b → (if b then 0 else word_in new (other ∷ key)) ≡ (if b then 0 else word_in old (other ∷ key))) [
       | true ↦ λ e. refl
-      | false ↦ λ e.
-          let apart : same_words (cell_key thread x words) (other ∷ key) ≡ false = elim (same_words (cell_key thread x words) (other ∷ key)) as (λ b. same_words (cell_key thread x words) (other ∷ key) ≡ b → b ≡ false) [
-            | true ↦ λ s.
-                let one : cell_key thread x words ≡ other ∷ key = (same_words_decides (cell_key thread x words) (other ∷ key)).0 s in
-                let first : thread ≡ other = ap (λ l. get_or l 0 0) one in
-                absurd (true≢false (sym ((Decides-eqb other thread).1 (sym first)) ∙ e))
-            | false ↦ λ s. refl
-          ] refl in
-          ap (λ (words : List ℕ → ℕ). words (other ∷ key)) set ∙ ap (λ b. if b then bits else word_in old (other ∷ key)) apart
+      | false ↦ λ e. ap (λ (words : List ℕ → ℕ). words (other ∷ key)) set ∙ cond-false _ bits (word_in old (other ∷ key)) (false_from_ne_true _ (λ s.
+          let one : cell_key thread x words ≡ other ∷ key = (same_words_decides (cell_key thread x words) (other ∷ key)).0 s in
+          eqb-false other thread e (sym (ap (λ l. get_or l 0 0) one))))
     ] refl

@@ -9,7 +9,7 @@ use Rattle.dif_machine.specs.Frames.{Frame, at_index, with_register, with_value}
 use Rattle.dif_machine.specs.Machine.{IsWordOf, Knows, Seen, value_of}
 use Rattle.dif_machine.specs.Semantics.{Goes, Next, Stuck, act, on}
 use Rattle.dif_machine.specs.Steps.Instructions.{CanExecute, ExecutesFor, ExecutesOn, Grows}
-use Rattle.dif_machine.specs.Steps.Instructions.{LeadsTo, StepsOn, with_frame}
+use Rattle.dif_machine.specs.Steps.Instructions.{LeadsTo, with_frame}
 use Rattle.dif_machine.specs.Steps.Semantics.{Stepped}
 use Rattle.dif_machine.specs.declared.onward.Onward.{Onward}
 use Rattle.dif_machine.specs.declared.onward.Onward.TheVariants as onward
@@ -82,8 +82,3 @@ module _ {M : Type 0} (holds : M → List (List ℕ) → Variables) (is_over : M
         others = others;
         stepped = acts index is_next ∙ sym (λ j. Goes (at_index (with_register (grows.frame j) d (Some (is.is j))) (is_next j)) (same j));
       })
-
-  -- the instruction at the index was executed
-  pub stepped_by : (index : ℕ) (i : Instr) → slice_get o.code index ≡ Some i → (result : Result Onward MachineFault) (left : M) (n : Seen) → ExecutesOn holds is_over beside i (index + 1) o f memory m result left n → StepsOn holds is_over beside o f index memory m result left n
-  stepped_by index i at_index_is result left n e =
-      subst (λ x. LeadsTo holds is_over beside f memory m result left n (on x (λ i. act i o f (at_index m.frame index) (holds memory m.texts)))) (sym at_index_is) (e index refl)

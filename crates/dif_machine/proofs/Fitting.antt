@@ -1,8 +1,8 @@
 -- A frame that has what is known.
-use Rattle.std.specs.Prelude.{◌≡◌, ◌<◌, ℕ, zero, suc, Bool, true, false, ◌||◌, List, [], ◌∷◌}
+use Rattle.std.specs.Prelude.{◌≡◌, ◌<◌, ℕ, zero, suc, false, List, [], ◌∷◌}
 use Rattle.std.specs.Prelude.{length, Option, Some, None, slice_index_or, slice_set}
 use Rattle.std.proofs.Common.{refl, sym, ap, ◌∙◌, subst, ⊎_elim, arith}
-use Rattle.std.proofs.lemmas.Bool.{cases_eq}
+use Rattle.std.proofs.lemmas.Bool.{cases_eq, or_parts}
 use Rattle.std.proofs.lemmas.List.{get_or-set_same, get_or-set_other}
 use Rattle.d_values.specs.Stores.{kind_of}
 use Rattle.d_values.specs.declared.key.KeyPart.{KeyPart}
@@ -89,17 +89,13 @@ other_or_unset Text (Some Text) a b = refl
 other_or_unset Number (Some Text) a b = cc
 other_or_unset Text (Some Number) a b = cc
 
-or_none : (a b : Bool) → (a || b) ≡ false → (a ≡ false) × (b ≡ false)
-or_none true b h = cc
-or_none false b h = (refl, h)
-
 pub one : (k : Kind) (a : Reg) (s : Shape) → finds_other (One k a) s ≡ false → finds_unset (One k a) s ≡ false → at s.registers a ≡ Some k
 one k a s x y = other_or_unset k (at s.registers a) x y
 
 pub two : (k : Kind) (a b : Reg) (s : Shape) → finds_other (Two k a b) s ≡ false → finds_unset (Two k a b) s ≡ false → (at s.registers a ≡ Some k) × (at s.registers b ≡ Some k)
 two k a b s x y =
-    let p = or_none (is_other k (at s.registers a)) _ x in
-    let q = or_none (is_unset (at s.registers a)) _ y in
+    let p = or_parts (is_other k (at s.registers a)) _ x in
+    let q = or_parts (is_unset (at s.registers a)) _ y in
     (other_or_unset k (at s.registers a) p.0 q.0, other_or_unset k (at s.registers b) p.1 q.1)
 
 pub any : (a : Reg) (s : Shape) → finds_unset (Any a) s ≡ false → (k : Kind) × (at s.registers a ≡ Some k)

@@ -3,15 +3,12 @@ use Rattle.std.specs.Prelude.{◌≡◌, ◌<◌, ◌≤◌, ◌-◌, ℕ, zero,
 use Rattle.std.proofs.Common.{refl, sym, ap, subst, ◌∙◌, arith}
 use Rattle.std.proofs.Props.{props}
 use Rattle.std.proofs.lemmas.List.{map-set}
-use Rattle.std.proofs.lemmas.Option.{slice_get-map}
+use Rattle.std.proofs.lemmas.Option.{same_Some, slice_get-map}
 use Rattle.numbered.specs.Texts.{Keeps, IsNumberOf, text_at}
 use Rattle.dif_machine.specs.Vocabulary.{Firing, Int, Text}
 use Rattle.dif_machine.specs.Machine.{AreNumbers, Knows, found_of, knows_nothing, texts_of}
 use Rattle.dif_machine.specs.Sources.{built_ins}
 use Rattle.dif_machine.proofs.Holding.{found_kept, number_text}
-
-same_bytes : (a b : List ℕ) → ◌≡◌ {A = Option (Option (List ℕ))} (Some (Some a)) (Some (Some b)) → a ≡ b
-same_bytes a b e = cc
 
 text_mapped : (texts : List (List ℕ)) (n : ℕ) → n < length texts → slice_index_or (map Text texts) n (Int 0) ≡ Text (text_at texts n)
 text_mapped [] n h = absurd (omega (arith, h))
@@ -28,7 +25,7 @@ text_is f v text few =
 one_more : (P : ℕ → List ℕ → Type 0) (found : List (Option (List ℕ))) (i : ℕ) (bytes : List ℕ) → ((k : ℕ) (b : List ℕ) → slice_get found k ≡ Some (Some b) → P k b) → P i bytes
     → (k : ℕ) (b : List ℕ) → slice_get (slice_set found i (Some bytes)) k ≡ Some (Some b) → P k b
 one_more P [] i bytes each one k b e = each k b e
-one_more P (x ∷ found) zero bytes each one zero b e = subst (P 0) (same_bytes bytes b e) one
+one_more P (x ∷ found) zero bytes each one zero b e = subst (P 0) (same_Some bytes b (same_Some (Some bytes) (Some b) e)) one
 one_more P (x ∷ found) zero bytes each one (suc k) b e = each (suc k) b e
 one_more P (x ∷ found) (suc i) bytes each one zero b e = each 0 b e
 one_more P (x ∷ found) (suc i) bytes each one (suc k) b e = one_more (λ k. P (suc k)) found i bytes (λ k b. each (suc k) b) one k b e

@@ -1,9 +1,9 @@
 -- The law of a lane's memory: more texts with numbers change nothing that it holds.
-use Rattle.std.specs.Prelude.{◌≡◌, ◌<◌, ◌≤◌, ◌^◌, ℕ, ℤ, Bool, true, false, ◌&&◌, ◌⊎◌, List, []}
-use Rattle.std.specs.Prelude.{◌∷◌, length, Some, if◌then◌else◌, nat_lt, slice_index_or}
-use Rattle.std.proofs.Common.{refl, sym, ap, subst, ◌∙◌, inl, inr, arith, true≢false}
+use Rattle.std.specs.Prelude.{◌≡◌, ◌<◌, ◌≤◌, ◌^◌, ℕ, ℤ, Bool, true, false, ◌⊎◌, List, []}
+use Rattle.std.specs.Prelude.{◌∷◌, length, Some, if◌then◌else◌, slice_index_or}
+use Rattle.std.proofs.Common.{refl, sym, ap, subst, ◌∙◌, ⊎_elim, inl, inr, arith, true≢false}
 use Rattle.std.specs.List.{All, position_or_len}
-use Rattle.std.proofs.lemmas.Bool.{ltb-true, ltb-false}
+use Rattle.std.proofs.lemmas.Bool.{and_parts, cases_lt, ltb-true}
 use Rattle.std.proofs.lemmas.List.Sums.{position_or_len_is, fails_before_first, passes_at_first}
 use Rattle.std.proofs.lemmas.List.Elements.{All-nil, All-cons, All-head, All-tail, All-weaker}
 use Rattle.std.proofs.lemmas.Option.{get_or_from_slice_get, slice_get-get_or, slice_get_within}
@@ -19,10 +19,6 @@ use Rattle.dif_machine.specs.Vocabulary.{Variables}
 use Rattle.dif_machine.specs.Machine.{IsWithin, value_of}
 use Rattle.dif_machine.specs.Cells.{cell_key, is_of_word, word_of_part, words_of, own_in, locals_in}
 use Rattle.dif_machine.specs.Cells.{AreLocalsOver, IsTableOver}
-
-pub second_true : (a b : Bool) → a && b ≡ true → b ≡ true
-second_true true b e = e
-second_true false b e = absurd (true≢false (sym e))
 
 -- the word of an integer that has one, or not
 abbrev int_word : List (List ℕ) → ℤ → Bool → Word
@@ -56,17 +52,12 @@ module _ (old new : List (List ℕ)) (kept : Keeps old new) where
   part_known (Number z) = elim (is_of_word z) as (λ b. is_of_word z ≡ b
       → (IsWithin old (int_word old z b) × (int_word new z b ≡ int_word old z b))
       ⊎ ((IsWithin old (int_word old z b) → ⊥) × (IsWithin old (int_word new z b) → ⊥))) [
-        | true ↦ λ e. inl (ltb-true (cast_unsigned w64 z) (2 ^ 64) (second_true _ _ e), refl)
+        | true ↦ λ e. inl (ltb-true (cast_unsigned w64 z) (2 ^ 64) (and_parts _ _ e).1, refl)
         | false ↦ λ e. inr (λ h. omega (arith, h), λ h. omega (arith, h, kept.long))
       ] refl
   part_known (Name bytes) =
-      elim (nat_lt i (length old)) as (λ b. nat_lt i (length old) ≡ b
-      → Known (Name bytes) ⊎ Unknown (Name bytes)) [
-        | true ↦ λ e.
-            let inside = ltb-true i (length old) e in inl (inside, ap word.Text (there inside))
-        | false ↦ λ e.
-            let past = ltb-false i (length old) e in inr (λ h. omega (arith, h, past), gone past)
-      ] refl
+      ⊎_elim (λ inside. inl (inside, ap word.Text (there inside)))
+      (λ past. inr (λ h. omega (arith, h, past), gone past)) (cases_lt i (length old))
     where
       i : ℕ
       i = position_or_len (same_text bytes) old

@@ -11,7 +11,7 @@ use crate::fault::MachineFault;
 use crate::machine::Machine;
 use crate::memory::{Memory, Variable};
 use crate::onward::Onward;
-use crate::stepping::step;
+use crate::stepping::execute;
 use crate::tables::Tables;
 use d_values::{ClauseLocals, ThreadTable, Value};
 use dif_validate::{Difo, Load, ValidDifo};
@@ -44,7 +44,8 @@ fn run_to_end<M: Memory>(
     machine.restart();
     let mut index = 0;
     loop {
-        match step(difo, firing, index, machine, memory) {
+        let instr = &difo.code[index];
+        match execute(difo, firing, instr, index + 1, machine, memory) {
             Ok(Onward::Goes(next)) => index = next,
             Ok(Onward::Ends(register)) => return Ok(machine.word(register)),
             Err(fault) => return Err(fault),

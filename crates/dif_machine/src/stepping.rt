@@ -1,4 +1,4 @@
-//! One step of the machine.
+//! Steps of the machine.
 
 mod comparisons;
 mod integers;
@@ -7,9 +7,9 @@ mod values;
 mod variables;
 
 ghost use Rattle.std.specs.Prelude.{◌≡◌, ◌≢◌, ◌+◌, ℕ};
-ghost use Rattle.dif_machine.specs.Semantics.{act, step_of, Stuck};
+ghost use Rattle.dif_machine.specs.Semantics.{act, Stuck};
 ghost use Rattle.dif_machine.specs.{Frames.at_index, Machine.Knows};
-ghost use Rattle.dif_machine.specs.Steps.Instructions.{ExecutesOn, StepsOn};
+ghost use Rattle.dif_machine.specs.Steps.Instructions.{ExecutesOn};
 ghost use Rattle.dif_machine.specs.Vocabulary.{object_of};
 
 use crate::machine::Machine;
@@ -18,31 +18,9 @@ use crate::onward::{Onward, Step};
 use dif_validate::{Difo, Instr};
 use firings::Firing;
 
-/// The instruction at an index.
+/// Executes an instruction, which the next index follows.
 #[inline(always)]
-pub(crate) fn step<M: Memory>(
-    difo: &Difo,
-    firing: &Firing,
-    index: usize,
-    machine: &mut Machine,
-    memory: &mut M,
-) -> Step
-    requires runs { step_of (object_of difo.now) firing.now (at_index machine.old.frame index)
-        (M.holds memory.old machine.old.texts) ≢ Stuck }
-    requires known { Knows firing.now machine.old.known }
-    requires over { M.is_over memory.old machine.old.texts }
-    ensures { StepsOn M.holds M.is_over M.beside (object_of difo.now) firing.now index
-        memory.old machine.old result memory.new machine.new }
-{
-    match difo.code.get(index) {
-        Some(instr) => execute(difo, firing, instr, index + 1, machine, memory),
-        None => unreachable!(),
-    }
-}
-
-// Executes an instruction, which the next index follows.
-#[inline(always)]
-fn execute<M: Memory>(
+pub(crate) fn execute<M: Memory>(
     difo: &Difo,
     firing: &Firing,
     instr: &Instr,

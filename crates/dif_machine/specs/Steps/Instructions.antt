@@ -6,7 +6,7 @@ use Rattle.dif_machine.specs.Vocabulary.{MachineFault, Object, Reg, Stls, Sttaa,
 use Rattle.dif_machine.specs.Vocabulary.{Variables, set_local, set_own}
 use Rattle.dif_machine.specs.Frames.{Frame, at_index}
 use Rattle.dif_machine.specs.Machine.{Knows, Seen}
-use Rattle.dif_machine.specs.Semantics.{Next, Stuck, act, step_of}
+use Rattle.dif_machine.specs.Semantics.{Next, Stuck, act}
 use Rattle.dif_machine.specs.Sources.{local_in, own_value}
 use Rattle.dif_machine.specs.Steps.Semantics.{Stepped}
 use Rattle.dif_machine.specs.declared.memory.Variable.{Variable}
@@ -91,10 +91,3 @@ abbrev pub ExecutesOn : {M : Type 0} → (M → List (List ℕ) → Variables)
 ExecutesOn holds is_over beside i next o f memory m result left n =
     (index : ℕ) → next ≡ index + 1 → LeadsTo holds is_over beside f memory m result left n
     (act i o f (at_index m.frame index) (holds memory m.texts))
-
-abbrev pub StepsOn : {M : Type 0} → (M → List (List ℕ) → Variables)
-    → (M → List (List ℕ) → Type 0) → (M → List ℕ → ℕ) → Object → Firing → ℕ → M → Seen
-    → Result Onward MachineFault → M → Seen → Type 0
-StepsOn holds is_over beside o f index memory m result left n =
-    LeadsTo holds is_over beside f memory m result left n
-    (step_of o f (at_index m.frame index) (holds memory m.texts))

@@ -1,6 +1,6 @@
 //! Instructions that put an integer into a register.
 
-ghost use Rattle.std.specs.Prelude.{◌≢◌, None, slice_get};
+ghost use Rattle.std.specs.Prelude.{◌<◌, length};
 ghost use Rattle.dif_machine.specs.Vocabulary.{Alu, Not, Setx, Ldga, Firing as Recorded, Object};
 ghost use Rattle.dif_machine.specs.Vocabulary.{object_of};
 ghost use Rattle.dif_machine.specs.Steps.Instructions.{CanExecute, Executes, ExecutesFor};
@@ -50,17 +50,13 @@ pub(super) fn not(machine: &mut Machine, a: Reg, d: Reg, next: usize) -> Step
 /// `setx i, d`: the integer of this index in the table.
 #[inline(always)]
 pub(super) fn setx(difo: &Difo, machine: &mut Machine, i: usize, d: Reg, next: usize) -> Step
-    requires inside { slice_get (object_of difo.now).numbers i ≢ None }
+    requires inside { i < length (object_of difo.now).numbers }
     ensures { (f : Recorded) → ExecutesFor (Setx i d) next (object_of difo.now) f
         machine.old result machine.new }
 {
-    match difo.numbers.get(i) {
-        Some(word) => {
-            machine.put(d, Word::Int(*word));
-            Ok(Onward::Goes(next))
-        }
-        None => unreachable!(),
-    }
+    let word = difo.numbers[i];
+    machine.put(d, Word::Int(word));
+    Ok(Onward::Goes(next))
 }
 
 /// `ldga v, a, d`: the firing's argument of this number.

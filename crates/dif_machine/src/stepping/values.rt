@@ -1,6 +1,6 @@
 //! Instructions that move a value of either kind.
 
-ghost use Rattle.std.specs.Prelude.{◌≢◌, ◌<◌, None, slice_get};
+ghost use Rattle.std.specs.Prelude.{◌<◌, length};
 ghost use Rattle.dif_machine.specs.Machine.{Knows};
 ghost use Rattle.dif_machine.specs.Vocabulary.{Firing as Recorded, Mov, Sets, Ldgs};
 ghost use Rattle.dif_machine.specs.Vocabulary.{Object, object_of};
@@ -25,18 +25,14 @@ pub(super) fn mov(machine: &mut Machine, a: Reg, d: Reg, next: usize) -> Step
 /// `sets i, d`: the text of this index in the table.
 #[inline(always)]
 pub(super) fn sets(difo: &Difo, machine: &mut Machine, i: usize, d: Reg, next: usize) -> Step
-    requires inside { slice_get (object_of difo.now).texts i ≢ None }
+    requires inside { i < length (object_of difo.now).texts }
     ensures { (f : Recorded) → ExecutesFor (Sets i d) next (object_of difo.now) f
         machine.old result machine.new }
 {
-    match difo.texts.get(i) {
-        Some(text) => {
-            let word = machine.text_word(text.as_bytes())?;
-            machine.put(d, word);
-            Ok(Onward::Goes(next))
-        }
-        None => unreachable!(),
-    }
+    let text = &difo.texts[i];
+    let word = machine.text_word(text.as_bytes())?;
+    machine.put(d, word);
+    Ok(Onward::Goes(next))
 }
 
 /// `ldgs v, d`: the built-in variable of this number.

@@ -54,20 +54,20 @@ returns-in_ok-word-in-BuiltIn-clause-ends g c =
     returned g s _ _ _ (stays g s _ c.built_in.ensures.kept).1 (loads_word c.args.valid.now c.args.firing.now _ c.in_ok-word-in-BuiltIn.word (vars g s) (Ldgs c.in-BuiltIn.v R1) _ load.0.first load.0.second (ap (λ x. on x (λ value. puts start R1 value (vars g s))) there) c.in_ok-word-in-BuiltIn.ensures.word)
 
 pub returns-in-Argument-clause-ends : goal.returns-in-Argument-clause-ends
-returns-in-Argument-clause-ends g c = 
+returns-in-Argument-clause-ends g c =
     let s = (goal.at.returns-in-Argument-clause-ends g c).Start in
     let load = subst (λ l. Loads l c.args.valid.now) c.in-Argument.is c.load.ensures in
     let run = loads_argument c.args.valid.now c.args.firing.now (Setx load.i R1) c.in-Argument.n (vars g s) load.first load.second load.third (ap (λ x. on x (λ n. puts start R1 (Int n) (vars g s))) load.number) in
     subst (λ n. RunEnds c.args.valid.now c.args.firing.now (vars g s) (Ok (Int n)) (vars g s)) (sym c.argument.ensures) run
 
 pub returns-in_ok-word-in-Local-clause-ends : goal.returns-in_ok-word-in-Local-clause-ends
-returns-in_ok-word-in-Local-clause-ends g c = 
+returns-in_ok-word-in-Local-clause-ends g c =
     let s = (goal.at.returns-in_ok-word-in-Local-clause-ends g c).Start in
     let load = subst (λ l. Loads l c.args.valid.now) c.in-Local.is c.load.ensures in
     returned g s _ _ _ c.load-in-Local.ensures.same (loads_word c.args.valid.now c.args.firing.now _ c.in_ok-word-in-Local.word (vars g s) (Ldls c.in-Local.x R1) _ load.first load.second refl c.in_ok-word-in-Local.ensures.word)
 
 pub returns-in_ok-word-in-Scalar-clause-ends : goal.returns-in_ok-word-in-Scalar-clause-ends
-returns-in_ok-word-in-Scalar-clause-ends g c = 
+returns-in_ok-word-in-Scalar-clause-ends g c =
     let s = (goal.at.returns-in_ok-word-in-Scalar-clause-ends g c).Start in
     let load = subst (λ l. Loads l c.args.valid.now) c.in-Scalar.is c.load.ensures in
     returned g s _ _ _ c.load-in-Scalar.ensures.same (loads_word c.args.valid.now c.args.firing.now _ c.in_ok-word-in-Scalar.word (vars g s) (Ldts c.in-Scalar.x R1) _ load.first load.second refl c.in_ok-word-in-Scalar.ensures.word)

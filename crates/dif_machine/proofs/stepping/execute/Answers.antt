@@ -1,4 +1,4 @@
-use Rattle.std.specs.Prelude.{◌≡◌, ◌≢◌, ℕ, Result, slice_get}
+use Rattle.std.specs.Prelude.{◌≡◌, ◌≢◌, ℕ, Result}
 use Rattle.std.proofs.Common.{refl, sym, ap, subst, ◌∙◌}
 use Rattle.dif_machine.specs.Frames.{Frame, at_index}
 use Rattle.dif_machine.specs.Machine.{Seen}
@@ -8,7 +8,7 @@ use Rattle.dif_machine.specs.Steps.Instructions.{CanExecute, ExecutesFor, Execut
 use Rattle.dif_machine.specs.Vocabulary.{Firing, Flushts, Instr, Int, Ldga, MachineFault, Object, Reg, Text, Variables, object_of}
 use Rattle.dif_machine.specs.declared.onward.Onward.{Onward}
 use Rattle.dif_machine.proofs.Acting.{number_fits, only_array, ret_there, text_fits}
-use Rattle.dif_machine.proofs.Executing.{executed, goes, inside, on_memory, there}
+use Rattle.dif_machine.proofs.Executing.{executed, goes, inside, on_memory}
 use Rattle.dif_machine.proofs.Holding.{keeps_refl}
 use Rattle.dif_machine.proofs.stepping.execute.Given.{Over}
 use Rattle.dif_machine.proofs.stepping.execute.Goals.{Start}
@@ -105,7 +105,7 @@ pub returns-in-Flushts : goal.returns-in-Flushts
 returns-in-Flushts g c = was g (goal.at.returns-in-Flushts g c).Start _ c.in-Flushts.is _ _ (goes Flushts _ _ _ _ _ _ c.flush.ensures (λ index is_next vars. refl))
 
 pub returns-in-Ret : goal.returns-in-Ret
-returns-in-Ret g c = 
+returns-in-Ret g c =
     let s = (goal.at.returns-in-Ret g c).Start in
     let value = ret_there (o g s) (f g s) (frame g s) (vars g s) c.in-Ret.a (runs g s _ c.in-Ret.is) in
     was g s _ c.in-Ret.is _ _ (record { kept = keeps_refl _; known = λ k. k; stepped = λ index is_next vars. (value.0, value.1, ap (λ x. on x (λ value. Ends value vars)) value.1) })
@@ -123,13 +123,13 @@ pub returns-in-Pushtv : goal.returns-in-Pushtv
 returns-in-Pushtv g c = was g (goal.at.returns-in-Pushtv g c).Start _ c.in-Pushtv.is _ _ (c.pushtv.ensures _ _)
 
 pub setx-requires : goal.setx-requires
-setx-requires g c = let s = (goal.at.setx-requires g c).Start in record { inside = there (slice_get (o g s).numbers c.in-Setx.i) (λ n. puts (frame g s) c.in-Setx.d (Int n) (vars g s)) (runs g s _ c.in-Setx.is) }
+setx-requires g c = let s = (goal.at.setx-requires g c).Start in record { inside = inside (o g s).numbers c.in-Setx.i (λ n. puts (frame g s) c.in-Setx.d (Int n) (vars g s)) (runs g s _ c.in-Setx.is) }
 
 pub returns-in-Setx : goal.returns-in-Setx
 returns-in-Setx g c = was g (goal.at.returns-in-Setx g c).Start _ c.in-Setx.is _ _ (c.setx.ensures _)
 
 pub sets-requires : goal.sets-requires
-sets-requires g c = let s = (goal.at.sets-requires g c).Start in record { inside = there (slice_get (o g s).texts c.in-Sets.i) (λ bytes. puts (frame g s) c.in-Sets.d (Text bytes) (vars g s)) (runs g s _ c.in-Sets.is) }
+sets-requires g c = let s = (goal.at.sets-requires g c).Start in record { inside = inside (o g s).texts c.in-Sets.i (λ bytes. puts (frame g s) c.in-Sets.d (Text bytes) (vars g s)) (runs g s _ c.in-Sets.is) }
 
 pub returns-in-Sets : goal.returns-in-Sets
 returns-in-Sets g c = was g (goal.at.returns-in-Sets g c).Start _ c.in-Sets.is _ _ (c.sets.ensures _)

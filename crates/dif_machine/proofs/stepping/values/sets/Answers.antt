@@ -1,4 +1,3 @@
-use Rattle.std.specs.Prelude.{slice_get}
 use Rattle.std.proofs.Common.{refl, sym, ap, subst, ◌∙◌}
 use Rattle.std.proofs.lemmas.Option.{slice_get_read}
 use Rattle.dif_machine.specs.Frames.{at_index}
@@ -11,7 +10,7 @@ use Rattle.dif_machine.proofs.stepping.values.sets.Goals as goal
 pub returns : goal.returns
 returns c =
     let k = c.text_word.ensures.grows in
-    let there = ap (λ l. slice_get l c.args.i) (sym c.deref.ensures.value) ∙ slice_get_read _ _ _ _ refl c.in-Some.ensures.lookup.3.0 c.in-Some.ensures.lookup.1 in
+    let there = slice_get_read c.args.difo.now.texts.items _ c.args.i c.index-text.result.now refl c.requires.inside c.index-text.ensures in
     λ f. finds _ _ _ f _ _ _ _ _ k.kept k.frame (subst (Knows f) (sym k.known)) c.put.ensures
     (λ index is_next vars. ap (λ x. on x (λ bytes. puts (at_index c.args.machine.now.frame index) c.args.d (Text bytes) vars)) there
-    ∙ ap (λ value. puts (at_index c.args.machine.now.frame index) c.args.d value vars) (ap Text (sym c.as_bytes.ensures) ∙ sym c.in_ok-word-in-Some.ensures.word.is))
+    ∙ ap (λ value. puts (at_index c.args.machine.now.frame index) c.args.d value vars) (ap Text (sym c.as_bytes.ensures) ∙ sym c.in_ok-word.ensures.word.is))
