@@ -5,7 +5,7 @@ ghost use Rattle.firing_reader.specs.{Gives.Gives};
 ghost use Rattle.shard_queue.specs.{Groups.AreOf, Groups.grouping, Threads.run_threads};
 ghost use Rattle.replay_core.specs.Exit.{firings_over};
 ghost use Rattle.consumer.specs.{Answer.IsShown, Scripts.IsAccepted};
-ghost use Rattle.consumer.specs.Vocabulary.{Firing, Grouping, Plan, functions_in};
+ghost use Rattle.consumer.specs.Vocabulary.{Firing, Grouping, Plan, ScriptMeant, functions_in};
 ghost use Rattle.consumer.specs.Vocabulary.{functions_of, trace_of, typed_script_of};
 ghost use Rattle.consumer.specs.{Plans.IsGroupedBy};
 ghost use Rattle.consumer.specs.Replaying.{IsAnswered, IsCarriedOut, IsRefusalUnder, IsReplay};
@@ -21,7 +21,7 @@ use d_types::TypedScript;
 use dif_codegen::compile;
 use firing_reader::{TraceFault, read_trace_by};
 use firings::Trace;
-use replay_core::{DifLanes, Gate, Layout, OpenGate, TreeLanes, Whole, run_all};
+use replay_core::{DifLanes, Gate, Lanes, Layout, OpenGate, TreeLanes, Whole, run_all};
 use shard_queue::Groups;
 use std::alloc::AllocError;
 use std::sync::Wait;
@@ -140,20 +140,38 @@ impl<'a, R: Threads + Wait + Sync, L: Layout> Consumer<'a, R, L> {
         ensures { IfOk result (IsRunBy (typed_script_of script.now) trace.now
             (grouping groups.now) plan.now.workers) }
     {
-        let workers = plan.workers;
         match plan.engine {
             EngineKind::Tree => {
                 let lanes = TreeLanes::with_hash_key(self.hash_key, script);
-                run_all(self.rt, self.alloc, &lanes, trace, groups, workers, gate)
+                self.run_lanes(&lanes, trace, groups, plan, gate)
             }
             EngineKind::Dif => {
                 let program = compile(self.alloc, script)?;
                 let lanes = DifLanes::with_hash_key(self.hash_key, &program);
-                let ran = run_all(self.rt, self.alloc, &lanes, trace, groups, workers, gate);
+                let ran = self.run_lanes(&lanes, trace, groups, plan, gate);
                 drop(program);
                 ran
             }
         }
+    }
+
+    // Runs what lanes run over a trace, by the workers of a plan.
+    fn run_lanes<K: Lanes + Sync, G: Gate + Sync>(
+        &self,
+        lanes: &K,
+        trace: &Trace,
+        groups: &Groups,
+        plan: &Plan,
+        gate: &G,
+    ) -> Result<Ran, AllocError>
+        requires groups { AreOf groups.now (run_threads trace.now) }
+        requires script { (m : ScriptMeant) × K.runs lanes.now m }
+        ensures { (m : ScriptMeant) → K.runs lanes.now m
+            → IfOk result (IsRunBy m trace.now
+            (grouping groups.now) plan.now.workers) }
+    {
+        let workers = plan.workers;
+        run_all(self.rt, self.alloc, lanes, trace, groups, workers, gate)
     }
 
     // What a run shows.
