@@ -10,7 +10,6 @@ pub mod FirstFault
 pub mod PlainRows
 pub mod PlainFields
 pub mod PlainFirings
-pub mod PlainHeader
 pub mod PieceRows
 pub mod Moved
 pub mod Shared

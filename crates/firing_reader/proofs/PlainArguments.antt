@@ -1,9 +1,11 @@
 -- Arguments of a plain row.
-use Rattle.std.proofs.Common.{◌≡◌, ◌<◌, ◌≤◌, ◌+◌, ◌-◌, ◌*◌, ℕ, ℤ, pos, zero, suc, List, [], ◌∷◌}
+use Rattle.std.proofs.Common.{◌≡◌, ◌≤◌, ◌+◌, ◌-◌, ◌*◌, ℕ, ℤ, pos, zero, suc, List, [], ◌∷◌}
 use Rattle.std.proofs.Common.{◌++◌, length, get_or, take, drop, map, All, Some, refl, sym, ap, ◌∙◌}
-use Rattle.std.proofs.Common.{arith, length-append, append_assoc, replicate}
+use Rattle.std.proofs.Common.{arith, length-append, append_assoc, replicate, zero-add}
 use Rattle.std.proofs.lemmas.List.Elements.{All-nil}
-use Rattle.std.proofs.lemmas.List.{length-replicate, map-append, append-nil}
+use Rattle.std.proofs.Math.Seq.{drop-append-add}
+use Rattle.std.proofs.lemmas.List.{length-replicate, map-append, append-nil, take_rest}
+use Rattle.std.proofs.Math.Nat.{suc-mul, zero-mul}
 use Rattle.firings.specs.declared.stored_row.Given.{Given}
 use Rattle.firing_reader.specs.Column.{signed_of}
 use Rattle.firing_reader.specs.Plain.{BeginsAtEnd, Passes}
@@ -36,43 +38,28 @@ nought = 48 ∷ []
 nought_read : signed_of nought ≡ Some (pos 0)
 nought_read = one_signed 0 (omega arith)
 
--- the last zeros of ten
-zeros_at : (n : ℕ) → n < 10 → take (19 - (20 - 2 * suc n)) (drop (20 - 2 * suc n) (alike nought 9)) ≡ alike nought n
-zeros_at zero lt = refl
-zeros_at (suc zero) lt = refl
-zeros_at (suc (suc zero)) lt = refl
-zeros_at (suc (suc (suc zero))) lt = refl
-zeros_at (suc (suc (suc (suc zero)))) lt = refl
-zeros_at (suc (suc (suc (suc (suc zero))))) lt = refl
-zeros_at (suc (suc (suc (suc (suc (suc zero)))))) lt = refl
-zeros_at (suc (suc (suc (suc (suc (suc (suc zero))))))) lt = refl
-zeros_at (suc (suc (suc (suc (suc (suc (suc (suc zero)))))))) lt = refl
-zeros_at (suc (suc (suc (suc (suc (suc (suc (suc (suc zero))))))))) lt = refl
-zeros_at (suc (suc (suc (suc (suc (suc (suc (suc (suc (suc n)))))))))) lt = absurd (omega arith)
+-- the last of ten
+alike_after : (field : List ℕ) (k n : ℕ) → drop (k * suc (length field)) (alike field (k + n)) ≡ alike field n
+alike_after field zero n = rw (zero-mul (suc (length field)), zero-add n) refl
+alike_after field (suc k) n =
+    let next : suc k * suc (length field) ≡ length field + suc (k * suc (length field)) = suc-mul k (suc (length field)) ∙ omega arith in
+    let more : suc k + n ≡ suc (k + n) = omega arith in
+    rw (next, more, drop-append-add field (44 ∷ alike field (k + n)) (suc (k * suc (length field)))) (alike_after field k n)
+
+last_alike : (field : List ℕ) (i n many : ℕ) → n ≤ 9 → i ≡ (9 - n) * suc (length field) → many ≡ length (alike field 9) → take (many - i) (drop i (alike field 9)) ≡ alike field n
+last_alike field i n many le index is =
+    let nine : 9 - n + n ≡ 9 = omega arith in
+    rw (is, take_rest (alike field 9) i, index) (rw nine at (alike_after field (9 - n) n))
 
 pub zeros_end : (count : ℕ) (bytes rest : List ℕ) → 1 ≤ count → count ≤ 10 → (bytes ≡ take (19 - (20 - 2 * count)) (drop (20 - 2 * count) (alike nought 9)) ++ rest) × BeginsAtEnd rest → EndsAlike bytes count rest
 zeros_end zero bytes rest least most h = absurd (omega arith)
 zeros_end (suc n) bytes rest least most (is, end) =
-    (nought, nought_read, alike_close nought (one_joins 0 (omega arith)) n bytes rest (is ∙ ap (λ (l : List ℕ). l ++ rest) (zeros_at n (omega arith))) end)
-
--- the last empty ones of ten
-empty_at : (n : ℕ) → n < 10 → take (9 - (10 - suc n)) (drop (10 - suc n) (alike [] 9)) ≡ alike [] n
-empty_at zero lt = refl
-empty_at (suc zero) lt = refl
-empty_at (suc (suc zero)) lt = refl
-empty_at (suc (suc (suc zero))) lt = refl
-empty_at (suc (suc (suc (suc zero)))) lt = refl
-empty_at (suc (suc (suc (suc (suc zero))))) lt = refl
-empty_at (suc (suc (suc (suc (suc (suc zero)))))) lt = refl
-empty_at (suc (suc (suc (suc (suc (suc (suc zero))))))) lt = refl
-empty_at (suc (suc (suc (suc (suc (suc (suc (suc zero)))))))) lt = refl
-empty_at (suc (suc (suc (suc (suc (suc (suc (suc (suc zero))))))))) lt = refl
-empty_at (suc (suc (suc (suc (suc (suc (suc (suc (suc (suc n)))))))))) lt = absurd (omega arith)
+    (nought, nought_read, alike_close nought (one_joins 0 (omega arith)) n bytes rest (is ∙ ap (λ (l : List ℕ). l ++ rest) (last_alike nought (20 - 2 * suc n) n 19 (omega arith) (omega arith) refl)) end)
 
 pub empty_end : (count : ℕ) (bytes rest : List ℕ) → 1 ≤ count → count ≤ 10 → (bytes ≡ take (9 - (10 - count)) (drop (10 - count) (alike [] 9)) ++ rest) × BeginsAtEnd rest → EndsAlike bytes count rest
 empty_end zero bytes rest least most h = absurd (omega arith)
 empty_end (suc n) bytes rest least most (is, end) =
-    ([], refl, alike_close [] (All-nil JoinsField) n bytes rest (is ∙ ap (λ (l : List ℕ). l ++ rest) (empty_at n (omega arith))) end)
+    ([], refl, alike_close [] (All-nil JoinsField) n bytes rest (is ∙ ap (λ (l : List ℕ). l ++ rest) (last_alike [] (10 - suc n) n 9 (omega arith) (omega arith) refl)) end)
 
 -- ---- arguments, one after the other
 

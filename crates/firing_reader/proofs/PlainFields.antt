@@ -1,7 +1,7 @@
 -- What the digits at the front of bytes write.
 use Rattle.std.proofs.Common.{zero, suc, get_or, take, ◌≡◌, ◌<◌, ◌≤◌, ◌+◌, ◌^◌, ℕ, ℤ, pos, neg_ℤ}
 use Rattle.std.proofs.Common.{◌-◌, List, [], ◌∷◌, length, Option, None, Some}
-use Rattle.std.proofs.Common.{refl, sym, ap, ◌∙◌, arith, All, Bor}
+use Rattle.std.proofs.Common.{refl, ap, ◌∙◌, arith, All, Bor}
 use Rattle.std.specs.Prelude.{IfSome}
 use Rattle.std.specs.Int.{IsInRange}
 use Rattle.std.specs.Str.Parse.{digits_value, AllDigits}

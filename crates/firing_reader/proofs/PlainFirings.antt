@@ -1,5 +1,5 @@
 -- The firing of a plain row.
-use Rattle.std.proofs.Common.{◌≡◌, ◌<◌, ◌≤◌, ◌^◌, ◌-◌, ℕ, pos, List, [], ◌∷◌, ◌++◌, map, Some, Ok, refl, ap}
+use Rattle.std.proofs.Common.{◌≡◌, ◌<◌, ◌≤◌, ◌^◌, ℕ, pos, List, [], ◌∷◌, Some, Ok, refl, ap}
 use Rattle.csv.specs.Records.{field_at}
 use Rattle.firings.specs.declared.firing.Firing.{Firing}
 use Rattle.firing_reader.specs.Column.{Whole, columns, number_from, value_of}

@@ -1,55 +1,59 @@
 -- Rows that wait: pieces of bytes that were read apart.
 use Rattle.std.proofs.Common.{◌≡◌, ◌<◌, ◌≤◌, ◌+◌, ◌-◌, ◌⊎◌, ℕ, zero, suc, List, [], ◌∷◌, ◌++◌, length, take, drop, get_or, take-append-drop}
 use Rattle.std.proofs.Common.{Result, Ok, Err, refl, sym, ap, subst, ◌∙◌, arith, append_assoc}
-use Rattle.std.proofs.Common.{length-append, inl, inr}
+use Rattle.std.proofs.Common.{length-append, inr, inl}
 use Rattle.std.specs.declared.alloc.AllocError.{AllocError}
-use Rattle.std.specs.Prelude.{OnErr, OnOk}
+use Rattle.std.specs.Prelude.{IfSome, OnErr, OnOk, option_map, slice_get}
 use Rattle.std.proofs.Math.Seq.{take-append_seam}
-use Rattle.std.proofs.lemmas.List.{append-nil}
+use Rattle.std.proofs.lemmas.List.{append-nil, length-take}
 use Rattle.firing_reader.specs.declared.blocks.Stage.{Stage}
 use Rattle.firing_reader.specs.declared.blocks.Stage.TheVariants as stage
 use Rattle.firings.specs.declared.firing.Firing.{Firing}
 use Rattle.firing_reader.specs.declared.pieces.Piece.{Piece}
 use Rattle.firing_reader.specs.Vocabulary.{Memory, TraceFault}
 use Rattle.firing_reader.specs.Blocks.{AreRead, BeginsAtFeed, reads_at}
-use Rattle.firing_reader.specs.Plain.{rows_in}
-use Rattle.firing_reader.specs.Pieces.{AreCut, ArePieces, AreWaiting, BeginsWithPiece, IsKeptAt}
-use Rattle.firing_reader.specs.Pieces.{IsPiece, unread}
-use Rattle.firing_reader.specs.Steps.Blocks.{IsFaultOf}
-use Rattle.firing_reader.specs.Steps.Pieces.{Adds}
-use Rattle.firing_reader.specs.Steps.Plain.{GoesAfter, GoesOn, PassesRows}
-use Rattle.firings.specs.Firings.{last_number}
+use Rattle.firing_reader.specs.Plain.{rows_in, with_front}
+use Rattle.firing_reader.specs.Pieces.{AreCut, ArePieces, BeginsWithPiece, GoesOn, IsKeptAt}
+use Rattle.firing_reader.specs.Pieces.{PassesRows, unread}
+use Rattle.firing_reader.specs.Steps.Blocks.{IsFaultOf, IsReadBy}
+use Rattle.firing_reader.specs.Steps.Pieces.{Adds, IsAdded}
+use Rattle.firings.specs.Firings.{last_number, number_of}
 use Rattle.firing_reader.specs.Trace.{rows_of}
-use Rattle.firing_reader.proofs.PlainRows.{goes_both, goes_end, goes_first, goes_rows}
-use Rattle.firing_reader.proofs.SharedRows.{goes_more, goes_rows_of, passes_on}
+use Rattle.firing_reader.proofs.BlockSteps.{read_after}
+use Rattle.firing_reader.proofs.PlainRows.{goes_first, goes_rows}
+use Rattle.firing_reader.proofs.Rows.{rows_first}
+use Rattle.firing_reader.proofs.SharedRows.{goes_more, passes_on}
+use Rattle.firing_reader.proofs.Written.{rows_moved}
 
 -- ---- pieces
 
 -- a piece that goes after the firings
-pub piece_after : (old : List Firing) (bytes : List ℕ) (fs new : List Firing) (count : ℕ) → IsPiece bytes fs count → GoesAfter old fs → new ≡ old ++ fs → PassesRows old bytes new count
-piece_after old bytes fs new count p goes is = record {
-  read = rw is (goes_end old bytes (old ++ fs) p.end 10 (drop (count + 1) bytes) p.ends (inl refl)
-      (goes_rows_of old bytes old bytes fs (p.end ∷ drop (count + 1) bytes) (last_number (old ++ fs)) (goes_first old bytes) p.rows goes.rises goes.few));
-  few = rw is (omega (arith, length-append old fs, goes.few));
-  inside = p.inside;
-}
-
-take_short : (n : ℕ) (xs : List ℕ) → length (take n xs) ≤ n
-take_short zero xs = omega arith
-take_short (suc n) [] = omega arith
-take_short (suc n) (x ∷ xs) = omega (arith, take_short n xs)
+pub piece_after : (old : List Firing) (bytes : List ℕ) (fs new : List Firing) (count : ℕ) → PassesRows [] bytes fs count → length old + length fs ≤ 1_000_000 → IfSome (option_map number_of (slice_get fs 0)) (λ n. last_number old < n)
+    → new ≡ old ++ fs → PassesRows old bytes new count
+piece_after old bytes fs new count p few first is =
+    let own : rows_of 1 0 p.read.rows ≡ Ok fs = sym (rows_first p.read.rows) ∙ p.read.read in
+    let size = length-append old fs in
+    record {
+      read = record {
+        rows = p.read.rows;
+        read = rw is (ap (with_front old) (rows_moved (length old + 1) (last_number old) p.read.rows fs own first (omega (arith, few))));
+        taken = p.read.taken;
+      };
+      few = rw is (omega (arith, size, few));
+      inside = p.inside;
+    }
 
 -- the rows of the first piece, which was passed to its end, and of those after it
 pub pieces_after : (old : List Firing) (bytes : List ℕ) (p : Piece) (mid new : List Firing) (count more : ℕ) → BeginsWithPiece bytes p → PassesRows old (take (p.end + 1) bytes) mid count → p.end ≤ count
     → PassesRows mid (drop p.end bytes) new more → PassesRows old bytes new (p.end + more)
 pieces_after old bytes p mid new count more b h past rest =
-    let short = take_short (p.end + 1) bytes in
+    let short = length-take (p.end + 1) bytes in
     let is : count ≡ p.end = omega (arith, short, h.inside, past) in
     let whole : p.end + 1 ≡ length (take (p.end + 1) bytes) = omega (arith, short, h.inside, past) in
     passes_on old bytes (take (p.end + 1) bytes) (drop p.end bytes) mid new p.end more b.cut (rw is at h) whole rest
 
 -- the first piece, and those after it
-pub pieces_cut : (bytes front last : List ℕ) (p : Piece) (ps : List Piece) → AreCut bytes front last → last ≡ drop (length front - 1) bytes → p.end + 1 ≡ length front → IsPiece front p.firings p.passed
+pub pieces_cut : (bytes front last : List ℕ) (p : Piece) (ps : List Piece) → AreCut bytes front last → last ≡ drop (length front - 1) bytes → p.end + 1 ≡ length front → PassesRows [] front p.firings p.passed
     → ArePieces ps last → ArePieces (p ∷ ps) bytes
 pieces_cut bytes front last p ps c at end piece others =
     let index : length front - 1 ≡ p.end = omega (arith, end) in
@@ -63,18 +67,15 @@ pieces_cut bytes front last p ps c at end piece others =
 abbrev pub Leads : List ℕ → Type 0
 Leads waiting = (left : List ℕ) → BeginsAtFeed left → BeginsAtFeed (unread waiting left)
 
-pub feed_leads : (w : List ℕ) → BeginsAtFeed w → Leads w
+feed_leads : (w : List ℕ) → BeginsAtFeed w → Leads w
 feed_leads w (after, is) left feed = subst (λ (x : List ℕ). BeginsAtFeed (unread x left)) (sym is) (after ++ drop 1 left, refl)
 
-pub waiting_leads : (ps : List Piece) (w : List ℕ) → AreWaiting ps w → Leads w
-waiting_leads ps [] h left feed = feed
-waiting_leads ps (b ∷ w) h left feed = feed_leads (b ∷ w) h.0 left feed
-
--- bytes that wait, and rows that were added
-pub adds_some : (r : Result (Unit {0}) TraceFault) (old : List Firing) (w : List ℕ) (new : List Firing) (rest : List ℕ) → 1 ≤ length w → OnOk r (GoesOn old w new rest) → OnOk r (BeginsAtFeed rest) → OnOk r (Adds old w new rest)
-adds_some (Err e) old w new rest some read feed = tt
-adds_some (Ok _) old [] new rest some read feed = absurd (omega (arith, some))
-adds_some (Ok _) old (b ∷ w) new rest some read feed = (read, feed)
+-- what is read of bytes that wait, after the rows that were added
+pub added_after : (r : Result (Unit {0}) TraceFault) (old : List Firing) (w : List ℕ) (mid : List Firing) (y : List ℕ) (new : List Firing) (rest : List ℕ) → 1 ≤ length w → GoesOn old w mid y → IsReadBy r mid y new rest
+    → OnOk r (BeginsAtFeed rest) → IsAdded r old w new rest
+added_after r old [] mid y new rest some g h feed = absurd (omega (arith, some))
+added_after (Ok u) old (b ∷ w) mid y new rest some g h feed = (read_after (Ok u) old (b ∷ w) mid y new rest g h, feed)
+added_after (Err e) old (b ∷ w) mid y new rest some g h feed = read_after (Err e) old (b ∷ w) mid y new rest g h
 
 pub adds_leads : (old : List Firing) (w : List ℕ) (new : List Firing) (rest : List ℕ) → Adds old w new rest → Leads rest
 adds_leads old [] new rest (same, none) left feed = rw none feed
@@ -104,12 +105,6 @@ fault_waiting e old (b ∷ w) left (inr fault) = inr (λ tail. ap (λ (l : List 
 -- the same, with nothing more to come
 pub fault_last : (e : TraceFault) (old : List Firing) (w left : List ℕ) → IsFaultOf e (λ tail. rows_in old (w ++ tail)) → (e ≡ Memory) ⊎ (rows_in old (unread w left) ≡ Err e)
 fault_last e old w left h = last_fault e old (unread w left) (fault_waiting e old w left h)
-
--- rows that one thread read, after those that were added
-pub alone_after : (r : Result (Unit {0}) TraceFault) (old : List Firing) (x : List ℕ) (mid : List Firing) (y : List ℕ) (new : List Firing) (w left : List ℕ) → GoesOn old x mid y → OnOk r (GoesOn mid y new left) → w ≡ []
-    → OnOk r (GoesOn old x new (unread w left))
-alone_after (Err e) old x mid y new w left g h none = tt
-alone_after (Ok _) old x mid y new w left g h none = rw none (goes_both old x mid y new left g h)
 
 -- what was left waits, and nothing else does
 pub keeps_left : (w left : List ℕ) → length w ≤ 1 → Leads w → BeginsAtFeed left → unread w left ≡ unread left (10 ∷ [])

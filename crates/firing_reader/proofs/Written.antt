@@ -1,7 +1,7 @@
 -- What reads as a trace is what writes one.
 use Rattle.std.proofs.Common.{◌≡◌, ◌≢◌, ◌≤◌, ◌<◌, ◌+◌, ◌-◌, ◌^◌, ℕ, zero, suc, List, [], ◌∷◌, length, map}
 use Rattle.std.proofs.Common.{Bool, true, false, cond, Some, Ok, Err, refl, sym, ap, ◌∙◌, arith, inl, inr}
-use Rattle.std.specs.Prelude.{◌≤ℤ◌, ◌↔◌, ◌==◌, ℤ, pos, codes, Contains, option_map}
+use Rattle.std.specs.Prelude.{◌≤ℤ◌, ◌↔◌, ◌==◌, ℤ, pos, codes, Contains, IfSome, option_map, slice_get}
 use Rattle.std.specs.List.{AllZip, AllByRecursion, list_any}
 use Rattle.std.specs.List.Sorted.{IsStrictlyIncreasing}
 use Rattle.std.specs.Str.{bytes_eq}
@@ -85,6 +85,10 @@ next_taken row last fields f w is few up =
     let texts : AreTexts fields f = record { execname = v.execname; provider = v.provider; probemod = v.probemod; probefunc = v.probefunc; name = v.name } in
     next_is row last fields f w.columns (numbers_are fields f v is) texts (unreserved f.provider is.unreserved) few up
 
+rises_from : (last : ℕ) (fs : List Firing) → IfSome (option_map number_of (slice_get fs 0)) (λ n. last < n) → IsStrictlyIncreasing (map number_of fs) → IsStrictlyIncreasing (last ∷ map number_of fs)
+rises_from last [] first rises = λ k within. absurd (omega arith)
+rises_from last (f ∷ fs) first rises = rises_more last f.number (map number_of fs) first rises
+
 first_rises : (a b : ℕ) (xs : List ℕ) → IsStrictlyIncreasing (a ∷ b ∷ xs) → a < b
 first_rises a b xs all = all zero (omega arith)
 
@@ -99,9 +103,15 @@ rows_taken row last (fields ∷ rows) (f ∷ fs) each all rises few =
     let rest = rows_taken (row + 1) f.number rows fs each.1 all.1 (rises_after last (f.number ∷ map number_of fs) rises) (omega arith) in
     rw (next, rest) refl
 
+-- rows that read well by themselves do after firings whose numbers they go on from
+pub rows_moved : (row last : ℕ) (rows : List (List (List ℕ))) (fs : List Firing) → rows_of 1 0 rows ≡ Ok fs → IfSome (option_map number_of (slice_get fs 0)) (λ n. last < n) → length fs + row ≤ 1_000_001 → rows_of row last rows ≡ Ok fs
+rows_moved row last rows fs read first few =
+    let trace = rows_trace rows fs read in
+    rows_taken row last rows fs (rows_written rows fs read) (recursion_from_All IsFiring fs trace.firings) (rises_from last fs first trace.rises) few
+
 from_zero : (fs : List Firing) → AllByRecursion IsFiring fs → IsStrictlyIncreasing (map number_of fs) → IsStrictlyIncreasing (0 ∷ map number_of fs)
-from_zero [] all rises = λ k within. absurd (omega arith)
-from_zero (f ∷ fs) all rises = rises_more 0 f.number (map number_of fs) (omega (arith, all.0.number)) rises
+from_zero [] all rises = rises_from 0 [] tt rises
+from_zero (f ∷ fs) all rises = rises_from 0 (f ∷ fs) (omega (arith, all.0.number)) rises
 
 trace_written : (bytes : List ℕ) (fs : List Firing) → WritesTrace bytes fs → trace_of bytes ≡ Ok fs
 trace_written bytes fs w =

@@ -1,6 +1,6 @@
 -- A trace that comes in blocks: what a reader keeps of those that it took, and what the trace reads
 -- as if it goes on after them.
-use Rattle.std.specs.Prelude.{◌≡◌, ℕ, List, [], ◌∷◌, ◌++◌, Result, Ok, Err}
+use Rattle.std.specs.Prelude.{◌≡◌, ℕ, List, ◌∷◌, ◌++◌, Result, Ok, Err}
 use Rattle.firing_reader.specs.declared.blocks.Stage.{Stage}
 use Rattle.firing_reader.specs.declared.blocks.Stage.TheVariants.{Header, Rows, Refused}
 use Rattle.firing_reader.specs.Vocabulary.{TraceFault}

@@ -1,26 +1,32 @@
 -- Pieces of bytes, one after another, that were read apart, and what of a trace waits in them.
-use Rattle.std.specs.Prelude.{◌≡◌, ◌<◌, ℕ, List, [], ◌∷◌, ◌++◌, ◌+◌, drop, length, take}
+use Rattle.std.specs.Prelude.{◌≡◌, ◌<◌, ◌≤◌, ℕ, List, [], ◌∷◌, ◌++◌, ◌+◌, drop, length, take}
+use Rattle.std.specs.Prelude.{Some, Ok}
+use Rattle.csv.specs.declared.parser.State.{State}
 use Rattle.firing_reader.specs.declared.blocks.Stage.{Stage}
 use Rattle.firing_reader.specs.declared.blocks.Stage.TheVariants.{Header, Rows, Refused}
 use Rattle.firing_reader.specs.declared.pieces.Piece.{Piece}
 use Rattle.firing_reader.specs.declared.waiting.Progress.{Progress}
 use Rattle.firings.specs.declared.firing.Firing.{Firing}
-use Rattle.firing_reader.specs.Plain.{BeginsAtEnd, IsEnd, ReadsRows}
-use Rattle.firings.specs.Firings.{last_number}
+use Rattle.firings.specs.declared.limits.TheConstants.{MAX_ROWS}
+use Rattle.firing_reader.specs.Left.{left_in}
+use Rattle.firing_reader.specs.Plain.{BeginsAtEnd, IsEnd, rows_after}
 use Rattle.firing_reader.specs.Blocks.{AreRead, BeginsAtFeed}
 
--- from a number the numbers of these firings rise to another
-unfoldable pub Rises : ℕ → List Firing → ℕ → Type 0
-Rises last [] end = last ≡ end
-Rises last (f ∷ fs) end = (last < f.number) × Rises f.number fs end
+-- csv takes rows off the bytes, whatever comes after them, and goes on with the rest; after the old
+-- firings these rows read as the new ones
+pub record GoesOn (old : List Firing) (bytes : List ℕ) (new : List Firing) (rest : List ℕ)
+    : Type 0 where
+  pub rows : List (List (List ℕ))
+  pub read : rows_after old rows ≡ Ok new
+  pub taken : (tail : List ℕ) → left_in State.StartRecord (Some (bytes ++ tail))
+      ≡ rows ++ left_in State.StartRecord (Some (rest ++ tail))
 
--- the bytes begin with the rows of these firings, and their numbers rise; `count` bytes come before
--- what is left
-pub record IsPiece (bytes : List ℕ) (fs : List Firing) (count : ℕ) : Type 0 where
-  pub end : ℕ
-  pub ends : IsEnd end
-  pub rows : ReadsRows bytes fs (end ∷ drop (count + 1) bytes)
-  pub rises : Rises 0 fs (last_number fs)
+-- the rows in the first `count` bytes come after the old firings, and give the new ones; the next
+-- byte is where a row ended, for which a line feed stands
+pub record PassesRows (old : List Firing) (bytes : List ℕ) (new : List Firing) (count : ℕ)
+    : Type 0 where
+  pub read : GoesOn old bytes new (10 ∷ drop (count + 1) bytes)
+  pub few : length new ≤ MAX_ROWS
   pub inside : count < length bytes
 
 -- two pieces that share the end of a row
@@ -35,7 +41,7 @@ pub record AreCut (bytes front last : List ℕ) : Type 0 where
 -- the bytes begin with those of this piece, and it has their rows
 pub record BeginsWithPiece (bytes : List ℕ) (p : Piece) : Type 0 where
   pub cut : AreCut bytes (take (p.end + 1) bytes) (drop p.end bytes)
-  pub piece : IsPiece (take (p.end + 1) bytes) p.firings p.passed
+  pub piece : PassesRows [] (take (p.end + 1) bytes) p.firings p.passed
 
 -- the bytes are those of the pieces, one after another, and what comes after them
 abbrev pub ArePieces : List Piece → List ℕ → Type 0

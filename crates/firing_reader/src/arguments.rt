@@ -1,7 +1,7 @@
 //! Arguments as they are stored: without the zeros at the end.
 
 ghost use Rattle.std.specs.Prelude.{◌≡◌, ◌<◌, ◌≤◌, ◌+◌, ◌^◌, ◌++◌, ℕ, pos, IfSome, get_or, length};
-ghost use Rattle.std.specs.Prelude.{take, drop};
+ghost use Rattle.std.specs.Prelude.{take};
 ghost use Rattle.firings.specs.{Arguments.ten};
 ghost use Rattle.firings.specs.Stored.{Extends, IsGivenIn, given_in};
 

@@ -6,18 +6,18 @@ ghost use Rattle.firing_reader.specs.{Vocabulary.Memory, Gives.Gives, Gives.Give
 ghost use Rattle.firings.specs.Firings.{IsTrace};
 ghost use Rattle.firing_reader.specs.Trace.{trace_of};
 ghost use Rattle.firing_reader.specs.Blocks.{BeginsAtFeed};
-ghost use Rattle.firing_reader.specs.Steps.Blocks.{Begins, IsFaultOf};
+ghost use Rattle.firing_reader.specs.Steps.Blocks.{Begins, IsFaultOf, IsReadBy};
 ghost use Rattle.firing_reader.specs.Blocks.{reads, reads_at};
 ghost use Rattle.firing_reader.specs.Plain.{rows_in};
 ghost use Rattle.firing_reader.specs.Pieces.{AreWaiting, IsKept, unread};
-ghost use Rattle.firing_reader.specs.Steps.Plain.{GoesOn};
 ghost use Rattle.firing_reader.specs.declared.blocks.Stage.TheVariants.{Refused, Rows};
 
 use crate::builder::FiringsBuilder;
 use crate::fault::TraceFault;
-use crate::header::{HEADER, MARK, after_header, after_mark};
-use crate::plain::front::is_end;
-use crate::reading::{read_records, read_rest, read_whole};
+use crate::header::{MARK, MIN_HEADER, after_mark};
+use crate::plain::front::{ends_at, is_end};
+use crate::plain::read_plain;
+use crate::reading::{read_by_csv, read_records, read_whole};
 use crate::row_ends::end_of_rows;
 use crate::waiting::{Progress, add_waiting, give_back, keep_waiting, read_pieces};
 use crate::whole_rows::{keep_from, read_rows};
@@ -279,8 +279,7 @@ fn refuse(stage: &mut Stage, progress: &mut Progress, fault: TraceFault) -> Resu
     }
 }
 
-// Reads the header, and if csv has to read it the whole rows after it too. Returns false if the
-// header isn't whole yet.
+// Reads the header, after empty lines. Returns false if it isn't whole yet.
 fn read_header(firings: &mut FiringsBuilder, left: &mut Vec<u8>) -> Result<bool, TraceFault>
     requires { firings.old ≡ [] }
     ensures found { IfOk result (λ found. MatchBool found
@@ -288,16 +287,12 @@ fn read_header(firings: &mut FiringsBuilder, left: &mut Vec<u8>) -> Result<bool,
         ((firings.new ≡ []) × (left.new.items ≡ left.old.items))) }
     ensures fault { IfErr result (λ e. IsFaultOf e (λ tail. trace_of (left.old.items ++ tail))) }
 {
-    if let Some(rest) = after_header(left) {
-        let at = left.len() - rest.len();
-        keep_from(left, at);
-        return Ok(true);
-    }
-    if left.len() <= HEADER.len() {
+    if left.len() <= MIN_HEADER {
         return Ok(false);
     }
     let text = after_mark(left);
-    let end = left.len() - text.len() + end_of_rows(text);
+    let enough = ends_at(text).saturating_add(MIN_HEADER);
+    let end = left.len() - text.len() + end_of_rows(text, enough);
     if end <= MARK.len() {
         return Ok(false);
     }
@@ -311,31 +306,27 @@ fn read_header(firings: &mut FiringsBuilder, left: &mut Vec<u8>) -> Result<bool,
 // Reads the rows that are whole by all workers. They wait, and this thread adds those that waited.
 fn read_rows_by<R: Threads>(rt: &R, progress: &mut Progress) -> Result<(), TraceFault>
     requires { IsKept Rows progress.old }
-    ensures read { OnOk result (GoesOn progress.old.firings
+    ensures read { IsReadBy result progress.old.firings
         (unread progress.old.waiting.bytes.items progress.old.left.items) progress.new.firings
-        (unread progress.new.waiting.bytes.items progress.new.left.items)) }
+        (unread progress.new.waiting.bytes.items progress.new.left.items) }
     ensures feed { OnOk result (BeginsAtFeed progress.new.left.items) }
     ensures waiting { OnOk result (AreWaiting progress.new.waiting.pieces.items
         progress.new.waiting.bytes.items) }
-    ensures fault { IfErr result (λ e. IsFaultOf e (λ tail. rows_in progress.old.firings
-        (unread progress.old.waiting.bytes.items progress.old.left.items ++ tail))) }
 {
-    if !progress.pieces.is_empty() {
-        read_pieces(
-            rt,
-            &mut progress.pieces,
-            &progress.left,
-            &mut progress.firings,
+    read_pieces(
+        rt,
+        &mut progress.pieces,
+        &progress.left,
+        &mut progress.firings,
+        &mut progress.waiting,
+    )?;
+    if !progress.pieces.is_empty() && progress.waiting.bytes.len() <= 1 {
+        keep_waiting(
             &mut progress.waiting,
+            &mut progress.pieces,
+            &mut progress.left,
         )?;
-        if progress.waiting.bytes.len() <= 1 {
-            keep_waiting(
-                &mut progress.waiting,
-                &mut progress.pieces,
-                &mut progress.left,
-            )?;
-            return Ok(());
-        }
+        return Ok(());
     }
     give_back(&mut progress.waiting, &mut progress.left)?;
     read_rows(&mut progress.firings, &mut progress.left)
@@ -376,7 +367,9 @@ fn read_last_rows(progress: &mut Progress) -> Result<(), TraceFault>
 {
     add_waiting(&mut progress.firings, &mut progress.waiting)?;
     give_back(&mut progress.waiting, &mut progress.left)?;
-    read_rest(&mut progress.firings, &progress.left)
+    let passed = read_plain(&mut progress.firings, &progress.left);
+    keep_from(&mut progress.left, passed);
+    read_by_csv(&mut progress.firings, &progress.left)
 }
 
 // Reads all that is left, after the last block.

@@ -1,6 +1,6 @@
 //! Firings that are being read.
 
-ghost use Rattle.std.specs.Prelude.{◌≡◌, ◌<◌, ◌≤◌, ◌++◌, ◌∷◌, [], All, IfOk, IfSome};
+ghost use Rattle.std.specs.Prelude.{◌≡◌, ◌<◌, ◌++◌, ◌∷◌, [], All, IfOk, IfSome};
 ghost use Rattle.std.specs.Prelude.{MatchOption, length, map, option_map, slice_get};
 ghost use Rattle.firings.specs.{declared.firing.Firing.Firing};
 ghost use Rattle.firing_reader.specs.{Plain.ReadsRow};

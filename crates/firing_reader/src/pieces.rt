@@ -2,14 +2,13 @@
 //! end of the row between them.
 
 ghost use Rattle.std.specs.Prelude.{◌≡◌, ◌<◌, ◌≤◌, ◌+◌, ◌-◌, [], true, IfSome, drop, get_or};
-ghost use Rattle.std.specs.Prelude.{length};
-ghost use Rattle.firings.specs.{Firings.last_number};
+ghost use Rattle.std.specs.Prelude.{length, option_map, slice_get};
+ghost use Rattle.firings.specs.Firings.{last_number, number_of};
 ghost use Rattle.firing_reader.specs.Plain.{BeginsAtEnd, IsEnd};
-ghost use Rattle.firing_reader.specs.Pieces.{AreCut, ArePieces, IsPiece, Rises};
-ghost use Rattle.firing_reader.specs.Steps.Plain.{GoesAfter, PassesRows};
+ghost use Rattle.firing_reader.specs.Pieces.{AreCut, ArePieces, PassesRows};
 
 use crate::builder::FiringsBuilder;
-use crate::plain::front::{begins_at_end, is_end};
+use crate::plain::front::is_end;
 use crate::plain::read_plain;
 use firings::MAX_ROWS;
 use keyed_hash::HashKey;
@@ -46,23 +45,12 @@ pub(crate) fn no_pieces(
 /// Reads a piece apart from the firings before it.
 pub(crate) fn read_piece(piece: &mut Piece, bytes: &[u8])
     requires { BeginsAtEnd bytes.now }
-    ensures piece { IsPiece bytes.now piece.new.firings piece.new.passed }
+    ensures piece { PassesRows [] bytes.now piece.new.firings piece.new.passed }
     ensures end { piece.new.end + 1 ≡ length bytes.now }
 {
     piece.firings.clear();
-    let rest = read_plain(&mut piece.firings, bytes);
-    piece.passed = bytes.len() - rest.len();
+    piece.passed = read_plain(&mut piece.firings, bytes);
     piece.end = bytes.len() - 1;
-}
-
-// Reads a piece after the firings before it. It returns how many bytes come before what is left.
-fn read_alone(firings: &mut FiringsBuilder, bytes: &[u8]) -> usize
-    requires feed { BeginsAtEnd bytes.now }
-    requires few { length firings.old ≤ MAX_ROWS }
-    ensures { PassesRows firings.old bytes.now firings.new result }
-{
-    let rest = read_plain(firings, bytes);
-    bytes.len() - rest.len()
 }
 
 /// Bytes cut in two, which share the end of a row.
@@ -78,49 +66,34 @@ pub(crate) fn cut_near(bytes: &[u8], from: usize) -> Cut<'_>
     ensures cut { AreCut bytes.now result.front.now result.last.now }
     ensures last { result.last.now ≡ drop (length result.front.now - 1) bytes.now }
 {
-    match cut_at_end(bytes, from) {
-        Some(cut) => cut,
-        None => Cut {
-            front: &bytes[..1],
-            last: bytes,
-        },
+    let at = end_near(bytes, from);
+    Cut {
+        front: &bytes[..at + 1],
+        last: &bytes[at..],
     }
 }
 
-// Whether a row ends with this byte. After the byte that ends it, others only end empty lines.
-fn ends_row(bytes: &[u8], at: usize) -> bool
-    requires { at < length bytes.now }
-    ensures { result ≡ true → IsEnd (get_or bytes.now at 0) }
-{
-    is_end(bytes[at]) && (at == 0 || !is_end(bytes[at - 1]))
-}
-
-// Cuts bytes at the first end of a row from an index on.
-fn cut_at_end(bytes: &[u8], from: usize) -> Option<Cut<'_>>
-    ensures cut { IfSome result (λ cut. AreCut bytes.now cut.front.now cut.last.now) }
-    ensures last { IfSome result
-        (λ cut. cut.last.now ≡ drop (length cut.front.now - 1) bytes.now) }
+// The index of the first end of a row from an index on, or else 0. After the byte that ends a row,
+// others only end empty lines.
+fn end_near(bytes: &[u8], from: usize) -> usize
+    requires { BeginsAtEnd bytes.now }
+    ensures inside { result < length bytes.now }
+    ensures end { IsEnd (get_or bytes.now result 0) }
 {
     for at in from..bytes.len() {
-        if ends_row(bytes, at) {
-            let front = &bytes[..at + 1];
-            if !begins_at_end(front) {
-                return None;
-            }
-            return Some(Cut {
-                front,
-                last: &bytes[at..],
-            });
+        if is_end(bytes[at]) && (at == 0 || !is_end(bytes[at - 1])) {
+            return at;
         }
     }
-    None
+    0
 }
 
 // Whether a trace may have the second after the first.
 fn goes_after(first: &FiringsBuilder, second: &FiringsBuilder) -> bool
-    requires few { length first.now ≤ MAX_ROWS }
-    requires rises { Rises 0 second.now (last_number second.now) }
-    ensures { result ≡ true → GoesAfter first.now second.now }
+    requires { length first.now ≤ MAX_ROWS }
+    ensures few { result ≡ true → length first.now + length second.now ≤ MAX_ROWS }
+    ensures rises { result ≡ true → IfSome (option_map number_of (slice_get second.now 0))
+        (λ number. last_number first.now < number) }
 {
     if second.len() > MAX_ROWS as usize - first.len() {
         return false;
@@ -137,11 +110,11 @@ fn goes_after(first: &FiringsBuilder, second: &FiringsBuilder) -> bool
 fn add_piece(firings: &mut FiringsBuilder, piece: &Piece, bytes: &[u8]) -> Option<usize>
     requires feed { BeginsAtEnd bytes.now }
     requires few { length firings.old ≤ MAX_ROWS }
-    requires piece { IsPiece bytes.now piece.now.firings piece.now.passed }
+    requires piece { PassesRows [] bytes.now piece.now.firings piece.now.passed }
     ensures { IfSome result (PassesRows firings.old bytes.now firings.new) }
 {
     if !goes_after(firings, &piece.firings) {
-        return Some(read_alone(firings, bytes));
+        return Some(read_plain(firings, bytes));
     }
     firings.append(&piece.firings)?;
     Some(piece.passed)
@@ -160,7 +133,7 @@ pub(crate) fn add_pieces(
     ensures { IfSome result (PassesRows firings.old bytes.now firings.new) }
 {
     let Some((piece, others)) = pieces.split_first() else {
-        return Some(read_alone(firings, bytes));
+        return Some(read_plain(firings, bytes));
     };
     let passed = add_piece(firings, piece, &bytes[..piece.end + 1])?;
     if passed < piece.end {

@@ -1,8 +1,7 @@
 //! Plain rows, without quotes, read where they lie in the trace. csv reads all others.
 
 ghost use Rattle.std.specs.Prelude.{◌≤◌, length};
-ghost use Rattle.firing_reader.specs.{Plain.BeginsAtEnd};
-ghost use Rattle.firing_reader.specs.Steps.Plain.{GoesOn, Leaves, ReadsMore};
+ghost use Rattle.firing_reader.specs.{Pieces.PassesRows, Plain.BeginsAtEnd};
 
 use crate::builder::FiringsBuilder;
 use firings::MAX_ROWS;
@@ -13,24 +12,20 @@ pub(crate) mod front;
 pub(crate) mod row;
 pub(crate) mod unit;
 
-/// Reads the rows after the end of a row, as long as they are plain, and returns what is left. That
-/// begins at the end of a row too, so that csv drops no byte order mark from the row after it.
+/// Reads the rows after the end of a row, as long as they are plain. It returns how many bytes come
+/// before what is left.
 #[inline(never)]
-pub(crate) fn read_plain<'a>(firings: &mut FiringsBuilder, bytes: &'a [u8]) -> &'a [u8]
+pub(crate) fn read_plain(firings: &mut FiringsBuilder, bytes: &[u8]) -> usize
     requires few { length firings.old ≤ MAX_ROWS }
     requires begins { BeginsAtEnd bytes.now }
-    ensures begins { BeginsAtEnd result.now }
-    ensures left { Leaves bytes.now result.now }
-    ensures read { GoesOn firings.old bytes.now firings.new result.now }
-    ensures rows { ReadsMore bytes.now firings.old firings.new result.now }
-    ensures few { length firings.new ≤ MAX_ROWS }
+    ensures { PassesRows firings.old bytes.now firings.new result }
 {
     let mut rest = bytes;
     for _ in firings.len()..MAX_ROWS as usize {
         let Some(after) = firings.read_row(rest) else {
-            return rest;
+            return bytes.len() - rest.len();
         };
         rest = after;
     }
-    rest
+    bytes.len() - rest.len()
 }

@@ -1,17 +1,16 @@
 //! Reading the rows of a trace.
 
 ghost use Rattle.std.specs.Prelude.{◌≤◌, ◌≡◌, ◌≢◌, ◌⊎◌, [], Ok, Err, IfOk, IfErr};
-ghost use Rattle.std.specs.Prelude.{OnOk, MatchBool, length};
+ghost use Rattle.std.specs.Prelude.{MatchBool, length};
 ghost use Rattle.csv.specs.Reading.{records as records_of, default_config, strip_bom};
 ghost use Rattle.firing_reader.specs.{Vocabulary.Memory};
 ghost use Rattle.firing_reader.specs.Gives.{Gives, GivesBy};
 ghost use Rattle.firing_reader.specs.Plain.{BeginsAtEnd, rows_after, rows_in};
-ghost use Rattle.firing_reader.specs.Trace.{trace_in, trace_of};
+ghost use Rattle.firing_reader.specs.Trace.{trace_of};
 
 use crate::builder::FiringsBuilder;
 use crate::fault::TraceFault;
-use crate::header::{after_header, is_header};
-use crate::plain::read_plain;
+use crate::header::is_header;
 use crate::records::Records;
 use crate::row::read_next;
 use csv::ByteRecord;
@@ -26,8 +25,7 @@ fn read_rows(
     firings: &mut FiringsBuilder,
 ) -> Result<(), TraceFault>
     requires few { length firings.old ≤ MAX_ROWS }
-    ensures read { GivesBy (λ _. firings.new) result (rows_after firings.old records.old) }
-    ensures few { OnOk result (length firings.new ≤ MAX_ROWS) }
+    ensures { GivesBy (λ _. firings.new) result (rows_after firings.old records.old) }
 {
     let mut args = [0; 10];
     let first = firings.len() as u32 + 1;
@@ -51,46 +49,11 @@ fn read_rows(
 pub(crate) fn read_by_csv(firings: &mut FiringsBuilder, rows: &[u8]) -> Result<(), TraceFault>
     requires begins { BeginsAtEnd rows.now }
     requires few { length firings.old ≤ MAX_ROWS }
-    ensures read { GivesBy (λ _. firings.new) result (rows_in firings.old rows.now) }
-    ensures few { OnOk result (length firings.new ≤ MAX_ROWS) }
+    ensures { GivesBy (λ _. firings.new) result (rows_in firings.old rows.now) }
 {
     let mut records = Records::new(firings.alloc(), rows);
     let mut fields = ByteRecord::new(firings.alloc());
     read_rows(&mut records, &mut fields, firings)
-}
-
-/// Reads all rows that are left: plain ones where they lie. From the first row on that isn't plain,
-/// csv reads, and it alone decides what is faulty.
-pub(crate) fn read_rest(firings: &mut FiringsBuilder, bytes: &[u8]) -> Result<(), TraceFault>
-    requires begins { BeginsAtEnd bytes.now }
-    requires few { length firings.old ≤ MAX_ROWS }
-    ensures { GivesBy (λ _. firings.new) result (rows_in firings.old bytes.now) }
-{
-    let rest = read_plain(firings, bytes);
-    read_by_csv(firings, rest)
-}
-
-// Reads the header of these records, and the rows after it. Returns false if there is no record.
-fn read_all(
-    records: &mut Records,
-    fields: &mut ByteRecord,
-    firings: &mut FiringsBuilder,
-) -> Result<bool, TraceFault>
-    requires empty { firings.old ≡ [] }
-    ensures read { IfOk result (λ found. MatchBool found (trace_in records.old ≡ Ok firings.new)
-        ((records.old ≡ []) × (firings.new ≡ []))) }
-    ensures faulty { IfErr result (λ e. (e ≡ Memory) ⊎ ((trace_in records.old ≡ Err e)
-        × (records.old ≢ []))) }
-    ensures few { OnOk result (length firings.new ≤ MAX_ROWS) }
-{
-    if !records.read(fields)? {
-        return Ok(false);
-    }
-    if !is_header(fields) {
-        return Err(TraceFault::Header);
-    }
-    read_rows(records, fields, firings)?;
-    Ok(true)
 }
 
 /// Reads the header and rows by csv. It returns false if there is no record.
@@ -100,21 +63,24 @@ pub(crate) fn read_records(firings: &mut FiringsBuilder, bytes: &[u8]) -> Result
         ((records_of default_config (strip_bom bytes.now) ≡ []) × (firings.new ≡ []))) }
     ensures faulty { IfErr result (λ e. (e ≡ Memory) ⊎ ((trace_of bytes.now ≡ Err e)
         × (records_of default_config (strip_bom bytes.now) ≢ []))) }
-    ensures few { OnOk result (length firings.new ≤ MAX_ROWS) }
 {
     let mut records = Records::new(firings.alloc(), bytes);
     let mut fields = ByteRecord::new(firings.alloc());
-    read_all(&mut records, &mut fields, firings)
+    if !records.read(&mut fields)? {
+        return Ok(false);
+    }
+    if !is_header(&fields) {
+        return Err(TraceFault::Header);
+    }
+    read_rows(&mut records, &mut fields, firings)?;
+    Ok(true)
 }
 
-/// Reads the bytes of a whole trace.
+/// Reads the bytes of a whole trace by csv.
 pub(crate) fn read_whole(firings: &mut FiringsBuilder, bytes: &[u8]) -> Result<(), TraceFault>
     requires empty { firings.old ≡ [] }
     ensures { GivesBy (λ _. firings.new) result (trace_of bytes.now) }
 {
-    if let Some(rest) = after_header(bytes) {
-        return read_rest(firings, rest);
-    }
     if !read_records(firings, bytes)? {
         return Err(TraceFault::Header);
     }
@@ -123,7 +89,8 @@ pub(crate) fn read_whole(firings: &mut FiringsBuilder, bytes: &[u8]) -> Result<(
 
 /// Reads a trace: CSV as the crate `csv` reads it by default, with the header and at most
 /// `MAX_ROWS` rows. The answer is the trace that the bytes write, or its first fault, or
-/// `TraceFault::Memory`. Maps hash by a fixed key; `read_trace_by` is given one.
+/// `TraceFault::Memory`. `csv` reads each row, and maps hash by a fixed key: `read_trace_by`, which
+/// is given one, is quicker.
 ///
 /// ```text
 /// let trace = read_trace(alloc, &bytes)?; // the header and two rows

@@ -52,8 +52,9 @@ fn after(place: Place, byte: u8) -> Place
     }
 }
 
-/// How many bytes there are up to the end of the last whole row, 0 if no row ends.
-pub(crate) fn end_of_rows(bytes: &[u8]) -> usize
+/// How many bytes there are up to the end of the first row that ends after so many bytes, or else
+/// to that of the last whole row; 0 if no row ends.
+pub(crate) fn end_of_rows(bytes: &[u8], enough: usize) -> usize
     ensures count { result ≤ length bytes.now }
     ensures ends { RowsEnd (take result bytes.now) }
 {
@@ -63,6 +64,9 @@ pub(crate) fn end_of_rows(bytes: &[u8]) -> usize
         place = after(place, bytes[at]);
         if let Place::Between = place {
             end = at + 1;
+            if end >= enough {
+                return end;
+            }
         }
     }
     end

@@ -1,12 +1,10 @@
 //! Reading bytes in pieces by several workers, while the pieces before them are added to the
 //! firings.
 
-ghost use Rattle.std.specs.Prelude.{◌≡◌, ◌+◌, ◌++◌, ◌∷◌, [], IfErr, IfOk, OnOk, length};
+ghost use Rattle.std.specs.Prelude.{◌≡◌, ◌+◌, ◌∷◌, [], IfOk, OnOk, length};
 ghost use Rattle.firing_reader.specs.Blocks.{AreRead, BeginsAtFeed};
-ghost use Rattle.firing_reader.specs.Pieces.{ArePieces, AreWaiting, IsPiece, unread};
-ghost use Rattle.firing_reader.specs.Plain.{BeginsAtEnd, rows_in};
-ghost use Rattle.firing_reader.specs.Steps.{Blocks.IsFaultOf};
-ghost use Rattle.firing_reader.specs.Steps.Pieces.{Adds};
+ghost use Rattle.firing_reader.specs.Pieces.{ArePieces, AreWaiting, PassesRows, unread};
+ghost use Rattle.firing_reader.specs.{Plain.BeginsAtEnd, Steps.Pieces.IsAdded};
 
 use crate::builder::FiringsBuilder;
 use crate::fault::TraceFault;
@@ -89,10 +87,8 @@ pub(crate) fn add_waiting(
 ) -> Result<(), TraceFault>
     requires waiting { AreWaiting waiting.old.pieces.items waiting.old.bytes.items }
     requires are_read { AreRead firings.old }
-    ensures added { OnOk result
-        (Adds firings.old waiting.old.bytes.items firings.new waiting.new.bytes.items) }
-    ensures fault { IfErr result (λ e.
-        IsFaultOf e (λ tail. rows_in firings.old (waiting.old.bytes.items ++ tail))) }
+    ensures { IsAdded result firings.old waiting.old.bytes.items
+        firings.new waiting.new.bytes.items }
 {
     let Waiting { pieces, bytes } = waiting;
     if bytes.is_empty() {
@@ -151,57 +147,28 @@ pub(crate) fn read_pieces<R: Threads>(
     requires waiting { AreWaiting waiting.old.pieces.items waiting.old.bytes.items }
     requires are_read { AreRead firings.old }
     ensures pieces { ArePieces pieces.new bytes.now }
-    ensures added { OnOk result
-        (Adds firings.old waiting.old.bytes.items firings.new waiting.new.bytes.items) }
-    ensures fault { IfErr result (λ e.
-        IsFaultOf e (λ tail. rows_in firings.old (waiting.old.bytes.items ++ tail))) }
+    ensures added { IsAdded result firings.old waiting.old.bytes.items
+        firings.new waiting.new.bytes.items }
 {
     let share = bytes.len() / pieces.len().max(1);
     let Some((piece, others)) = pieces.split_first_mut() else {
         return add_waiting(firings, waiting);
     };
-    let cut = cut_near(bytes, share.min(bytes.len().saturating_sub(1)));
-    read_both(rt, piece, others, cut, firings, waiting)
-}
-
-// Reads the first piece in a new thread, while others read those after it.
-#[cycle(reading)]
-fn read_both<R: Threads>(
-    rt: &R,
-    piece: &mut Piece,
-    others: &mut [Piece],
-    cut: Cut<'_>,
-    firings: &mut FiringsBuilder,
-    waiting: &mut Waiting,
-) -> Result<(), TraceFault>
-    requires front { BeginsAtEnd cut.front.now }
-    requires last { BeginsAtEnd cut.last.now }
-    requires waiting { AreWaiting waiting.old.pieces.items waiting.old.bytes.items }
-    requires are_read { AreRead firings.old }
-    ensures piece { IsPiece cut.entry.front.now piece.new.firings piece.new.passed }
-    ensures end { piece.new.end + 1 ≡ length cut.entry.front.now }
-    ensures others { ArePieces others.new cut.entry.last.now }
-    ensures added { OnOk result
-        (Adds firings.old waiting.old.bytes.items firings.new waiting.new.bytes.items) }
-    ensures fault { IfErr result (λ e.
-        IsFaultOf e (λ tail. rows_in firings.old (waiting.old.bytes.items ++ tail))) }
-{
-    let Cut { front, last } = cut;
+    let Cut { front, last } = cut_near(bytes, share.min(bytes.len().saturating_sub(1)));
     let ((), added) = join_mut(
         rt,
         &mut || -> ()
             requires { BeginsAtEnd front.now }
-            ensures piece { IsPiece front.entry.now piece.exit.now.firings piece.exit.now.passed }
+            ensures piece { PassesRows [] front.entry.now piece.exit.now.firings
+                piece.exit.now.passed }
             ensures end { piece.exit.now.end + 1 ≡ length front.entry.now }
         { read_piece(piece, front) },
         &mut || -> Result<(), TraceFault>
             requires { BeginsAtEnd last.now × AreRead firings.now
                 × AreWaiting waiting.now.pieces.items waiting.now.bytes.items }
             ensures others { ArePieces others.exit.now last.entry.now }
-            ensures added { OnOk result (Adds firings.entry.now waiting.entry.now.bytes.items
-                firings.exit.now waiting.exit.now.bytes.items) }
-            ensures fault { IfErr result (λ e. IsFaultOf e
-                (λ tail. rows_in firings.entry.now (waiting.entry.now.bytes.items ++ tail))) }
+            ensures added { IsAdded result firings.entry.now waiting.entry.now.bytes.items
+                firings.exit.now waiting.exit.now.bytes.items }
         { read_pieces(rt, others, last, firings, waiting) },
     );
     added

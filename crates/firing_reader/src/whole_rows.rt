@@ -1,12 +1,11 @@
 //! Rows that are whole, at the front of the bytes that are left.
 
-ghost use Rattle.std.specs.Prelude.{◌≡◌, ◌<◌, ◌≤◌, ◌+◌, ◌++◌, ◌∷◌, IfErr, OnOk, drop, length};
+ghost use Rattle.std.specs.Prelude.{◌≡◌, ◌<◌, ◌≤◌, ◌+◌, ◌∷◌, OnOk, drop, length};
 ghost use Rattle.firing_reader.specs.Blocks.{AreRead, BeginsAtFeed};
-ghost use Rattle.firing_reader.specs.{Plain.rows_in, Steps.Blocks.IsFaultOf, Steps.Plain.GoesOn};
+ghost use Rattle.firing_reader.specs.{Steps.Blocks.IsReadBy};
 
 use crate::builder::FiringsBuilder;
 use crate::fault::TraceFault;
-use crate::plain::front::rest_after;
 use crate::plain::read_plain;
 use crate::reading::read_by_csv;
 use crate::row_ends::end_of_rows;
@@ -15,18 +14,16 @@ use crate::row_ends::end_of_rows;
 pub(crate) fn read_rows(firings: &mut FiringsBuilder, left: &mut Vec<u8>) -> Result<(), TraceFault>
     requires feed { BeginsAtFeed left.old.items }
     requires are_read { AreRead firings.old }
-    ensures read { OnOk result (GoesOn firings.old left.old.items firings.new left.new.items) }
+    ensures read { IsReadBy result firings.old left.old.items firings.new left.new.items }
     ensures feed { OnOk result (BeginsAtFeed left.new.items) }
-    ensures fault { IfErr result (λ e.
-        IsFaultOf e (λ tail. rows_in firings.old (left.old.items ++ tail))) }
 {
-    let rest = read_plain(firings, left);
-    let end = end_of_rows(rest_after(rest, 1));
+    let passed = read_plain(firings, left);
+    keep_from(left, passed);
+    let end = end_of_rows(&left[1..], usize::MAX);
     if end > 0 {
-        read_by_csv(firings, &rest[..end + 1])?;
+        read_by_csv(firings, &left[..end + 1])?;
+        keep_from(left, end);
     }
-    let at = left.len() - rest.len() + end;
-    keep_from(left, at);
     Ok(())
 }
 

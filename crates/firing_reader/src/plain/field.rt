@@ -7,7 +7,7 @@ ghost use Rattle.std.specs.Str.Parse.{AllDigits, digits_value};
 ghost use Rattle.firing_reader.specs.Column.{Whole, number_from, signed_of, value_of};
 ghost use Rattle.firings.specs.Texts.{text_of};
 ghost use Rattle.firing_reader.specs.{Plain.Passes};
-ghost use Rattle.firing_reader.specs.Steps.Plain.{BeginsWith, Closes};
+ghost use Rattle.firing_reader.specs.Steps.Plain.{BeginsAs, Closes};
 
 use super::front::{after_comma, after_minus, begins_at_end, front, rest_after, word_front};
 use crate::columns::negative;
@@ -45,8 +45,8 @@ fn one_digit(bytes: &[u8]) -> Option<(u8, &[u8])>
 // A number from least to most that a comma ends.
 #[inline(always)]
 pub(crate) fn whole(bytes: &[u8], least: u64, most: u64) -> Option<(u64, &[u8])>
-    ensures value { IfSome result (λ p. (field : List ℕ)
-        × BeginsWith bytes.now field (44 ∷ p.1.now) × (number_from least most field ≡ Some p.0)) }
+    ensures value { IfSome result
+        (λ p. BeginsAs (number_from least most) bytes.now p.0 (44 ∷ p.1.now)) }
     ensures bound { IfSome result (λ p. p.0 ≤ most) }
 {
     let (number, count) = digits(bytes)?;
@@ -60,9 +60,8 @@ pub(crate) fn whole(bytes: &[u8], least: u64, most: u64) -> Option<(u64, &[u8])>
 // A number of at most 31 bits, from least, that a comma ends.
 #[inline(always)]
 pub(crate) fn int(bytes: &[u8], least: u64) -> Option<(i32, &[u8])>
-    ensures { IfSome result (λ p. (field : List ℕ)
-        × BeginsWith bytes.now field (44 ∷ p.1.now)
-        × (value_of (Whole least 0x7FFF_FFFF) field ≡ Some p.0)) }
+    ensures { IfSome result
+        (λ p. BeginsAs (value_of (Whole least 0x7FFF_FFFF)) bytes.now p.0 (44 ∷ p.1.now)) }
 {
     if least == 0
         && let Some((digit, rest)) = one_digit(bytes)
@@ -75,8 +74,7 @@ pub(crate) fn int(bytes: &[u8], least: u64) -> Option<(i32, &[u8])>
 
 // A text that a comma ends.
 pub(crate) fn text(bytes: &[u8]) -> Option<(Text, &[u8])>
-    ensures { IfSome result (λ p. (field : List ℕ)
-        × BeginsWith bytes.now field (44 ∷ p.1.now) × (text_of field ≡ Some p.0)) }
+    ensures { IfSome result (λ p. BeginsAs text_of bytes.now p.0 (44 ∷ p.1.now)) }
 {
     match word(bytes) {
         Some(found) => Some(found),
@@ -86,8 +84,7 @@ pub(crate) fn text(bytes: &[u8]) -> Option<(Text, &[u8])>
 
 // A short text in ASCII that a comma ends: no byte of it needs a further look.
 fn word(bytes: &[u8]) -> Option<(Text, &[u8])>
-    ensures { IfSome result (λ p. (field : List ℕ)
-        × BeginsWith bytes.now field (44 ∷ p.1.now) × (text_of field ≡ Some p.0)) }
+    ensures { IfSome result (λ p. BeginsAs text_of bytes.now p.0 (44 ∷ p.1.now)) }
 {
     let count = word_front(bytes);
     if count > MAX_TEXT {
@@ -101,8 +98,7 @@ fn word(bytes: &[u8]) -> Option<(Text, &[u8])>
 #[cold]
 #[inline(never)]
 fn any_text(bytes: &[u8]) -> Option<(Text, &[u8])>
-    ensures { IfSome result (λ p. (field : List ℕ)
-        × BeginsWith bytes.now field (44 ∷ p.1.now) × (text_of field ≡ Some p.0)) }
+    ensures { IfSome result (λ p. BeginsAs text_of bytes.now p.0 (44 ∷ p.1.now)) }
 {
     let count = front(bytes);
     let rest = after_comma(rest_after(bytes, count))?;
@@ -113,8 +109,7 @@ fn any_text(bytes: &[u8]) -> Option<(Text, &[u8])>
 // An argument without a minus.
 #[inline(always)]
 fn above_zero(bytes: &[u8]) -> Option<(i64, &[u8])>
-    ensures { IfSome result (λ p. (field : List ℕ)
-        × BeginsWith bytes.now field p.1.now × (signed_of field ≡ Some p.0)) }
+    ensures { IfSome result (λ p. BeginsAs signed_of bytes.now p.0 p.1.now) }
 {
     let (number, count) = digits(bytes)?;
     if number > i64::MAX as u64 {
@@ -126,8 +121,8 @@ fn above_zero(bytes: &[u8]) -> Option<(i64, &[u8])>
 // An argument whose minus comes before these bytes.
 #[inline(always)]
 fn below_zero(bytes: &[u8]) -> Option<(i64, &[u8])>
-    ensures { IfSome result (λ p. (field : List ℕ)
-        × BeginsWith bytes.now field p.1.now × (signed_of (45 ∷ field) ≡ Some p.0)) }
+    ensures { IfSome result
+        (λ p. BeginsAs (λ field. signed_of (45 ∷ field)) bytes.now p.0 p.1.now) }
 {
     let (number, count) = digits(bytes)?;
     if count == 0 || number > 1 << 63 {
@@ -139,8 +134,7 @@ fn below_zero(bytes: &[u8]) -> Option<(i64, &[u8])>
 // An argument, whatever ends it.
 #[inline(always)]
 fn argument(bytes: &[u8]) -> Option<(i64, &[u8])>
-    ensures { IfSome result (λ p. (field : List ℕ)
-        × BeginsWith bytes.now field p.1.now × (signed_of field ≡ Some p.0)) }
+    ensures { IfSome result (λ p. BeginsAs signed_of bytes.now p.0 p.1.now) }
 {
     match after_minus(bytes) {
         Some(rest) => below_zero(rest),

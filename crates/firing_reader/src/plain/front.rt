@@ -65,8 +65,8 @@ fn after_empty_lines(bytes: &[u8]) -> &[u8]
     rest_after(bytes, count)
 }
 
-// How many bytes at the front end rows.
-fn ends_at(bytes: &[u8]) -> usize
+/// How many bytes at the front end rows.
+pub(crate) fn ends_at(bytes: &[u8]) -> usize
     ensures count { result ≤ length bytes.now }
     ensures ends { All IsEnd (take result bytes.now) }
 {

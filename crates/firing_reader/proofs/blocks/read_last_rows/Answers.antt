@@ -1,3 +1,4 @@
+use Rattle.std.proofs.Common.{◌∙◌, inl, refl}
 use Rattle.std.proofs.lemmas.Result.{err_from_is_err_and}
 use Rattle.firing_reader.proofs.Kept.{rows_few}
 use Rattle.firing_reader.proofs.PlainRows.{goes_all}
@@ -8,13 +9,17 @@ pub returns-in_err-add_waiting : goal.returns-in_err-add_waiting
 returns-in_err-add_waiting c =
     let p = err_from_is_err_and c.from_residual.result c.from_residual.ensures.1 in
     let old = c.args.progress.now in
-    rw (p.1, p.2) (fault_last c.in_err-add_waiting.field-0.0 old.firings old.waiting.bytes.items old.left.items c.in_err-add_waiting.ensures.fault)
+    rw (p.1, p.2) (fault_last c.in_err-add_waiting.field-0.0 old.firings old.waiting.bytes.items old.left.items c.in_err-add_waiting.ensures)
 
-pub read_rest-requires-clause-few : goal.read_rest-requires-clause-few
-read_rest-requires-clause-few c = let (rows, read) = adds_read _ _ _ _ c.in_ok-add_waiting.ensures.added c.requires.1.1 in rows_few rows _ read
+pub read_plain-passed-requires-clause-few : goal.read_plain-passed-requires-clause-few
+read_plain-passed-requires-clause-few c = let (rows, read) = adds_read _ _ _ _ c.in_ok-add_waiting.ensures c.requires.1.1 in rows_few rows _ read
+
+pub read_by_csv-requires-clause-begins : goal.read_by_csv-requires-clause-begins
+read_by_csv-requires-clause-begins c = (10, _, c.deref-2.ensures.value ∙ c.keep_from.ensures, inl refl)
 
 pub returns : goal.returns
 returns c =
     let left = c.args.progress.now.left.items in
-    let goes = adds_goes _ _ _ _ left c.in_ok-add_waiting.ensures.added in
-    rw (goes_all _ _ _ _ goes, ← c.in_ok-give_back.ensures.left) (rw c.deref.ensures.value at c.read_rest.ensures)
+    let goes = adds_goes _ _ _ _ left c.in_ok-add_waiting.ensures in
+    let plain = goes_all _ _ _ _ c.read_plain-passed.ensures.read in
+    rw (goes_all _ _ _ _ goes, ← c.in_ok-give_back.ensures.left, ← c.deref.ensures.value, plain) (rw (c.deref-2.ensures.value, c.keep_from.ensures, ← c.deref.ensures.value) at c.read_by_csv.ensures)

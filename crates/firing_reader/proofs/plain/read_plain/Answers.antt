@@ -1,10 +1,10 @@
 use Rattle.std.proofs.Common.{arith, length-append, ◌∷◌, []}
 use Rattle.firing_reader.proofs.PlainRows.{goes_first, goes_row, leaves_first, leaves_row}
-use Rattle.firing_reader.proofs.PieceRows.{more_first, more_row}
+use Rattle.firing_reader.proofs.SharedRows.{passes_alone}
 use Rattle.firing_reader.proofs.plain.read_plain.Goals as goal
 
 pub loop-init : goal.loop-init
-loop-init c = record { begins = c.requires.begins; left = leaves_first _ c.requires.begins; read = goes_first _ _; rows = more_first _ _; few = omega (arith, c.len-counter.ensures) }
+loop-init c = record { begins = c.requires.begins; left = leaves_first _ c.requires.begins; read = goes_first _ _; few = omega (arith, c.len-counter.ensures) }
 
 pub loop-preserved : goal.loop-preserved
 loop-preserved c =
@@ -14,6 +14,11 @@ loop-preserved c =
       begins = (row.end, row.after, row.is_rest, row.ends);
       left = leaves_row c.args.bytes.now c.loop.rest.now f c.in-Some.after.now c.loop.invariant.left row;
       read = rw pushed (goes_row c.args.firings.now c.args.bytes.now c.loop.firings c.loop.rest.now f c.in-Some.after.now row rises (omega arith) c.loop.invariant.read);
-      rows = rw pushed (more_row c.args.bytes.now c.args.firings.now c.loop.firings c.loop.rest.now f c.in-Some.after.now c.loop.invariant.rows row rises);
       few = rw pushed (omega arith);
     }
+
+pub returns-in_default : goal.returns-in_default
+returns-in_default c = rw c.in_default.ensures (passes_alone c.args.firings.now c.args.bytes.now c.loop.firings c.loop.rest.now c.loop.invariant.left c.loop.invariant.read (omega arith))
+
+pub returns : goal.returns
+returns c = passes_alone c.args.firings.now c.args.bytes.now c.loop.firings c.loop.rest.now c.loop.invariant.left c.loop.invariant.read (omega arith)

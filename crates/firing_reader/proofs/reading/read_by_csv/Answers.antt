@@ -2,7 +2,7 @@ use Rattle.std.proofs.Common.{◌∙◌}
 use Rattle.firing_reader.proofs.PlainRows.{left_end}
 use Rattle.firing_reader.proofs.reading.read_by_csv.Goals as goal
 
-pub returns-clause-read : goal.returns-clause-read
-returns-clause-read c =
+pub returns : goal.returns
+returns c =
     let same = c.new-records.ensures ∙ left_end c.args.rows.now c.requires.begins in
-    rw same at c.read_rows.ensures.read
+    rw same at c.read_rows.ensures

@@ -1,20 +1,20 @@
 use Rattle.std.proofs.Common.{sym, ◌∙◌, inr}
 use Rattle.std.proofs.lemmas.Result.{err_from_is_err_and}
 use Rattle.firing_reader.proofs.Rows.{header_fault, header_other, header_read}
-use Rattle.firing_reader.proofs.reading.read_all.Goals as goal
+use Rattle.firing_reader.proofs.reading.read_records.Goals as goal
 
 pub returns-then-not-is_header-clause-faulty : goal.returns-then-not-is_header-clause-faulty
 returns-then-not-is_header-clause-faulty c =
-    let taken = rw c.if-not-branch.false at c.in_ok-read.ensures.taken in
+    let taken = sym c.new-records.ensures ∙ (rw c.if-not-branch.false at c.in_ok-read.ensures.taken) in
     inr (header_other _ _ _ taken (sym c.is_header.ensures ∙ c.if-not-is_header.true))
 
 pub returns-in_err-read_rows-clause-faulty : goal.returns-in_err-read_rows-clause-faulty
 returns-in_err-read_rows-clause-faulty c =
-    let taken = rw c.if-not-branch.false at c.in_ok-read.ensures.taken in
+    let taken = sym c.new-records.ensures ∙ (rw c.if-not-branch.false at c.in_ok-read.ensures.taken) in
     let p = err_from_is_err_and c.from_residual-in_err-read_rows.result c.from_residual-in_err-read_rows.ensures.1 in
-    rw (p.1, p.2) (header_fault _ _ _ c.args.firings.now c.in_err-read_rows.field-0.0 taken (sym c.is_header.ensures ∙ c.if-not-is_header.false) c.requires.empty c.in_err-read_rows.ensures.read)
+    rw (p.1, p.2) (header_fault _ _ _ c.args.firings.now c.in_err-read_rows.field-0.0 taken (sym c.is_header.ensures ∙ c.if-not-is_header.false) c.requires.empty c.in_err-read_rows.ensures)
 
 pub returns-clause-read : goal.returns-clause-read
 returns-clause-read c =
-    let taken = rw c.if-not-branch.false at c.in_ok-read.ensures.taken in
-    header_read _ _ _ c.args.firings.now _ taken (sym c.is_header.ensures ∙ c.if-not-is_header.false) c.requires.empty c.in_ok-read_rows.ensures.read
+    let taken = sym c.new-records.ensures ∙ (rw c.if-not-branch.false at c.in_ok-read.ensures.taken) in
+    header_read _ _ _ c.args.firings.now _ taken (sym c.is_header.ensures ∙ c.if-not-is_header.false) c.requires.empty c.in_ok-read_rows.ensures
