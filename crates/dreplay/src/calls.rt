@@ -215,7 +215,7 @@ fn consume_refuses_a_bundle_without_a_trace(rt: HostRuntime) {
     assert!(rt; is_refused && out.is_empty());
 }
 
-// The script's file, or no name for a bundle, and how many workers, how many groups and what engine.
+// The file of the script, empty for a bundle; how many workers, how many groups, and what engine.
 type Wanted<'a> = (&'a str, u32, u32, EngineKind);
 
 const ASKED: [(&[&str], Wanted<'_>); 5] = [
