@@ -9,7 +9,7 @@ ghost use Rattle.firings.specs.Texts.{text_of};
 ghost use Rattle.firing_reader.specs.{Plain.Passes};
 ghost use Rattle.firing_reader.specs.Steps.Plain.{BeginsAs, Closes};
 
-use super::front::{after_byte, begins_at_end, front, rest_after, word_front};
+use super::front::{after_comma, after_minus, begins_at_end, front, rest_after, word_front};
 use crate::columns::negative;
 use core::dec2flt::read_digits;
 use firings::{MAX_TEXT, Text};
@@ -53,7 +53,7 @@ pub(crate) fn whole(bytes: &[u8], least: u64, most: u64) -> Option<(u64, &[u8])>
     if count == 0 || number < least || most < number {
         return None;
     }
-    let rest = after_byte(rest_after(bytes, count), b',')?;
+    let rest = after_comma(rest_after(bytes, count))?;
     Some((number, rest))
 }
 
@@ -90,7 +90,7 @@ fn word(bytes: &[u8]) -> Option<(Text, &[u8])>
     if count > MAX_TEXT {
         return None;
     }
-    let rest = after_byte(rest_after(bytes, count), b',')?;
+    let rest = after_comma(rest_after(bytes, count))?;
     Some((Text::of(&bytes[..count]), rest))
 }
 
@@ -101,7 +101,7 @@ fn any_text(bytes: &[u8]) -> Option<(Text, &[u8])>
     ensures { IfSome result (λ p. BeginsAs text_of bytes.now p.0 (44 ∷ p.1.now)) }
 {
     let count = front(bytes);
-    let rest = after_byte(rest_after(bytes, count), b',')?;
+    let rest = after_comma(rest_after(bytes, count))?;
     let text = Text::from_bytes(&bytes[..count])?;
     Some((text, rest))
 }
@@ -136,7 +136,7 @@ fn below_zero(bytes: &[u8]) -> Option<(i64, &[u8])>
 fn argument(bytes: &[u8]) -> Option<(i64, &[u8])>
     ensures { IfSome result (λ p. BeginsAs signed_of bytes.now p.0 p.1.now) }
 {
-    match after_byte(bytes, b'-') {
+    match after_minus(bytes) {
         Some(rest) => below_zero(rest),
         None => above_zero(bytes),
     }
@@ -152,7 +152,7 @@ pub(crate) fn next_argument(bytes: &[u8]) -> Option<(i64, &[u8])>
         return Some((i64::from(digit), rest));
     }
     let (value, rest) = argument(bytes)?;
-    let after = after_byte(rest, b',')?;
+    let after = after_comma(rest)?;
     Some((value, after))
 }
 

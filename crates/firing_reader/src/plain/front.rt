@@ -5,13 +5,22 @@ ghost use Rattle.std.specs.Prelude.{take};
 ghost use Rattle.firing_reader.specs.Plain.{BeginsAtEnd, IsEnd};
 ghost use Rattle.firing_reader.specs.Steps.Plain.{IsWordByte, JoinsField};
 
-// What comes after this byte, if the bytes begin with it.
-#[inline(always)]
-pub(crate) fn after_byte(bytes: &[u8], b: u8) -> Option<&[u8]>
-    ensures { IfSome result (λ rest. bytes.now ≡ b ∷ rest.now) }
+// What comes after a comma.
+pub(crate) fn after_comma(bytes: &[u8]) -> Option<&[u8]>
+    ensures { IfSome result (λ rest. bytes.now ≡ 44 ∷ rest.now) }
 {
     match bytes {
-        [first, rest @ ..] if *first == b => Some(rest),
+        [b',', rest @ ..] => Some(rest),
+        _ => None,
+    }
+}
+
+// What comes after a minus.
+pub(crate) fn after_minus(bytes: &[u8]) -> Option<&[u8]>
+    ensures { IfSome result (λ rest. bytes.now ≡ 45 ∷ rest.now) }
+{
+    match bytes {
+        [b'-', rest @ ..] => Some(rest),
         _ => None,
     }
 }
