@@ -41,7 +41,7 @@ PLANS = plans((1, 2, 16), (1, 2, 4096), ("dif", "tree"))
 FEW_PLANS = plans((1, 2), (2,), ("dif", "tree"))
 # Enough where a call of dreplay-data fails: only what renders a run isn't dreplay's.
 DATA_PLANS = plans((2,), (2,), ("dif",))
-SECONDS = 120
+SECONDS = 600
 SYNTAX_LINE = re.compile(rb"(refused: Parse 1) line \d+")
 
 

@@ -10,7 +10,7 @@ import tempfile
 from lib import harness
 
 RECORDER = f"{harness.TOP}/tools/dreplay-record"
-SECONDS = 60
+SECONDS = 600
 THREADS = """
 import threading, time
 def work(n):
