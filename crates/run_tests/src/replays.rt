@@ -1,6 +1,7 @@
 //! Calls that no run of the program shows: what ran in which group and by whom, groups as lists,
 //! failing readers and writers, and what is said of each refusal.
 
+use crate::stream_calls::read;
 use consumer::{
     ConsumeFault, Consumer, EngineKind, GroupPlan, Help, Plan, Refusal, Replayed, refusal_status,
     refusal_text,
@@ -15,8 +16,8 @@ use std::alloc::{AllocError, AllocGlobal, Global};
 use std::sync::Wait;
 use std::test::Fail;
 use std::thread::Threads;
+use streams::Watched;
 use streams::faulty::Faulty;
-use streams::{Watched, read_to_end};
 
 pub(crate) const SCRIPT: &[u8] = b"syscall::read:entry { @[execname] = count(); }";
 
@@ -167,11 +168,10 @@ fn consume_trace_by_bytes<R: AllocGlobal + Threads + Wait + Sync>(
     reads: u64,
     writes: u64,
 ) -> (Result<Replayed, ConsumeFault>, Vec<u8>) {
-    let mut source = Watched::new(Faulty::new(SCRIPT, script_reads));
     let mut feed = Watched::new(Faulty::new(TRACE, reads));
     let mut sink = Watched::new(Faulty::new(Vec::new(rt.alloc()), writes));
     let plan = serial();
-    let answer = match read_to_end(rt.alloc(), &mut source) {
+    let answer = match read(rt.alloc(), SCRIPT, script_reads) {
         Ok(script) => reporting(rt).consume_trace(&script, &mut feed, &mut sink, &plan),
         Err(fault) => Err(ConsumeFault::from(fault)),
     };

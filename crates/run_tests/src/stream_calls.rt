@@ -1,10 +1,10 @@
 //! What goes through streams over memory, with a failure at each call in turn.
-ghost use Rattle.std.specs.Prelude.{◌≡◌, ◌<◌, ℕ, length, take, IfOk, OnOk, OnErr};
+ghost use Rattle.std.specs.Prelude.{◌≡◌, ◌<◌, ℕ, length, take, OnOk, OnErr};
 
 use std::alloc::Global;
 use std::test::Fail;
 use streams::faulty::Faulty;
-use streams::{ReadFault, Watched, WriteFault, emit, read_to_end};
+use streams::{ReadFault, Reading, Watched, WriteFault, emit, read_block};
 
 // Writes to memory one byte a call. The contract has what a caller knows of it after both wrappers.
 fn write_to_memory(
@@ -21,11 +21,16 @@ fn write_to_memory(
     (answer, sink.into_inner().into_inner())
 }
 
-// Reads from memory one byte a call.
-fn read(alloc: Global, bytes: &[u8], good_calls: u64) -> Result<Vec<u8>, ReadFault>
-    ensures { IfOk result (λ v. v.items ≡ bytes.now) }
-{
-    read_to_end(alloc, &mut Watched::new(Faulty::new(bytes, good_calls)))
+// Reads from memory one byte a call, to the end.
+pub(crate) fn read(alloc: Global, bytes: &[u8], good_calls: u64) -> Result<Vec<u8>, ReadFault> {
+    let mut feed = Watched::new(Faulty::new(bytes, good_calls));
+    let mut reading = Reading::new(alloc)?;
+    let mut all = Vec::new(alloc);
+    let ended = read_block(&mut feed, &mut reading, &mut all, usize::MAX)?;
+    if !ended {
+        return Err(ReadFault::Failed);
+    }
+    Ok(all)
 }
 
 #[test]

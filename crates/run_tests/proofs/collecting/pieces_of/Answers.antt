@@ -17,7 +17,7 @@ loop-group-preserved c =
     let functions : functions_of piece.table ≡ functions_in m = ap (λ s. functions_of s.table) same ∙ (fresh.script m refl).0.have_functions in
     let taken : piece.taken.items ≡ [] = ap (λ s. s.taken) same ∙ fresh.fresh.taken in
     let none : length piece.taken.items ≡ 0 = ap length taken in
-    let room = c.finish.ensures.held fresh.unspent in
+    let room = c.finish.ensures.held in
     let held : count_held piece.table ≡ 0 = omega (arith, room, none) in
     let items = c.in_ok-push.ensures.items in
     record {
