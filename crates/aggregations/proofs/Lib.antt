@@ -4,6 +4,7 @@ pub mod HistogramLemmas
 pub mod MergeLemmas
 pub mod OrderLemmas
 pub mod IndexLemmas
+mod Measures
 pub mod RangeLemmas
 pub mod RankLemmas
 pub mod SpanLemmas

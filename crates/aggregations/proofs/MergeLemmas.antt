@@ -1,17 +1,16 @@
 -- One aggregation takes the entries of another.
 use Rattle.std.proofs.Common.{◌≡◌, ℕ, ◌+◌, ◌<◌, ◌≤◌, ◌⊎◌, inl, inr, Bool, true, false, cond, length}
-use Rattle.std.proofs.Common.{get_or, set, drop, List, [], ◌∷◌, ◌++◌, Option, None, Some, refl, sym}
-use Rattle.std.proofs.Common.{ap, ◌∙◌, subst, arith, sum_by, zero-add}
+use Rattle.std.proofs.Common.{get_or, set, List, [], ◌∷◌, ◌++◌, Option, None, Some, refl, sym, ◌≢◌}
+use Rattle.std.proofs.Common.{ap, ◌∙◌, subst, arith, sum_by}
 use Rattle.std.specs.Prelude.{slice_get}
 use Rattle.std.specs.Option.{option_map}
 use Rattle.std.proofs.lemmas.Bool.{cases_eq}
-use Rattle.std.proofs.lemmas.Option.{slice_get-get_or, slice_get-map, slice_get_within}
-use Rattle.std.proofs.Math.Seq.{map-set_same}
-use Rattle.std.proofs.lemmas.List.{length-map}
-use Rattle.std.proofs.lemmas.List.FromFn.{length-enumerate_from, get_or-enumerate_from}
-use Rattle.std.specs.List.{IsDistinct, AllByRecursion, enumerate_from}
+use Rattle.std.proofs.lemmas.Option.{slice_get-get_or, slice_get-map, slice_get_read, slice_get_within}
+use Rattle.std.proofs.Math.Seq.{map-set_same, get_or-append_seam}
+use Rattle.std.proofs.lemmas.List.{append_assoc, append-nil, length-append, length-map}
+use Rattle.std.specs.List.{IsDistinct, AllByRecursion}
 use Rattle.std.specs.Map.{lookup, keys_of, values_of}
-use Rattle.std.proofs.lemmas.List.Sums.{sum_by-cons, sum_by-set, sum_by-drop_more, get_or-le-sum_by}
+use Rattle.std.proofs.lemmas.List.Sums.{sum_by-append, sum_by-cons, sum_by-set}
 use Rattle.d_values.specs.declared.key.KeyPart.{KeyPart}
 use Rattle.d_values.specs.Keys.{same_key}
 use Rattle.d_values.specs.KeyLaws.{same_key_decides, same_key_equiv}
@@ -79,72 +78,94 @@ merging_more first all now next key p rest m kept more puts = record {
 
 -- ---- tables
 
--- `first` takes `all`, and is `now`, with the aggregations from `index` on still to come
-pub record MergingTables (first all : List Aggregation) (index : ℕ) (now : List Aggregation) : Type 0 where
+-- `first` takes `all`, and is `now`, with the aggregations `rest` of `all` still to come, the last of them first
+pub record MergingTables (first all rest now : List Aggregation) : Type 0 where
+  pub gone : List Aggregation
+  pub whole : all ≡ rest ++ gone
   pub functions : functions_of now ≡ functions_of first
-  pub done : (i : ℕ) (a b c : Aggregation) → i < index → slice_get first i ≡ Some a → slice_get all i ≡ Some b → slice_get now i ≡ Some c → TakesAll a b c
-  pub todo : (i : ℕ) → index ≤ i → slice_get now i ≡ slice_get first i
-  pub held : count_held now + count_held (drop index all) ≤ count_held first + count_held all
+  pub done : (i : ℕ) (a b c : Aggregation) → length rest ≤ i → slice_get first i ≡ Some a → slice_get all i ≡ Some b → slice_get now i ≡ Some c → TakesAll a b c
+  pub todo : (i : ℕ) → i < length rest → slice_get now i ≡ slice_get first i
+  pub held : count_held now + count_held rest ≤ count_held first + count_held all
 
-pub tables_start : (first all : List Aggregation) → MergingTables first all 0 first
+pub tables_start : (first all : List Aggregation) → MergingTables first all all first
 tables_start first all = record {
+  gone = [];
+  whole = sym (append-nil all);
   functions = refl;
-  done = λ i a b c lt. absurd (omega arith);
-  todo = λ i le. refl;
+  done = λ i a b c past x y. absurd (let within = slice_get_within all i b y in omega (arith, within, past));
+  todo = λ i lt. refl;
   held = omega arith;
 }
 
--- the aggregation at the index takes its own, or is refused memory for it
-pub tables_set : (first all now : List Aggregation) (index : ℕ) (old more new : Aggregation) → MergingTables first all index now
-    → index < length now → old ≡ get_or now index old → index < length all → more ≡ get_or all index more
-    → new.function ≡ old.function → count_of new ≤ count_of old + count_of more
-    → (functions_of (set now index new) ≡ functions_of first)
-    × (count_held (set now index new) + count_held (drop (index + 1) all) ≤ count_held first + count_held all)
-tables_set first all now index old more new m within was within_all is kept count = (
-  map-set_same (λ a. a.function) now index new old (kept ∙ ap (λ a. a.function) was) ∙ m.functions,
-  (let sums = sum_by-set count_of now index new old within in
-      let here : count_of old ≡ count_of (get_or now index old) = ap count_of was in
-      let rest = sum_by-drop_more count_of all index more within_all in
-      let front : count_of more ≡ count_of (get_or all index more) = ap count_of is in
-      let before = m.held in
-      omega arith),
-)
+-- the last of those that are left goes, and the aggregation at its index takes it, or is refused memory for it
+module _ (first all now rest left : List Aggregation) (more : Aggregation) (same : functions_of first ≡ functions_of all)
+    (m : MergingTables first all rest now) (cut : rest ≡ left ++ more ∷ []) (index : ℕ) (at : index ≡ length left) where
+  longer : length rest ≡ length left + 1
+  longer = ap length cut ∙ length-append left (more ∷ [])
 
-pub tables_room : (first all now : List Aggregation) (index : ℕ) (old more : Aggregation) → MergingTables first all index now
-    → index < length now → old ≡ get_or now index old → index < length all → more ≡ get_or all index more
-    → count_of old + count_of more ≤ count_held first + count_held all
-tables_room first all now index old more m within was within_all is =
-    let one = get_or-le-sum_by count_of now index old within in
-    let here : count_of old ≡ count_of (get_or now index old) = ap count_of was in
-    let rest = sum_by-drop_more count_of all index more within_all in
-    let front : count_of more ≡ count_of (get_or all index more) = ap count_of is in
-    let before = m.held in
-    omega arith
+  whole : all ≡ left ++ more ∷ m.gone
+  whole = m.whole ∙ ap (λ l. l ++ m.gone) cut ∙ append_assoc left (more ∷ []) m.gone
 
-pub tables_more : (first all now : List Aggregation) (index : ℕ) (old more new : Aggregation) → MergingTables first all index now
-    → index < length now → old ≡ get_or now index old → index < length all → more ≡ get_or all index more
-    → new.function ≡ old.function → TakesAll old more new → count_of new ≤ count_of old + count_of more
-    → MergingTables first all (index + 1) (set now index new)
-tables_more first all now index old more new m within was within_all is kept takes count = record {
-  functions = (tables_set first all now index old more new m within was within_all is kept count).0;
-  done = λ i a b c lt x y z. done i a b c lt x y z (cases_eq i index);
-  todo = λ i le. slice_get-set_other now index new i (λ e. omega arith) ∙ m.todo i (omega arith);
-  held = (tables_set first all now index old more new m within was within_all is kept count).1;
-}
-  where
-    done : (i : ℕ) (a b c : Aggregation) → i < index + 1 → slice_get first i ≡ Some a → slice_get all i ≡ Some b → slice_get (set now index new) i ≡ Some c
-        → ((i ≡ index) ⊎ (i ≡ index → ⊥)) → TakesAll a b c
-    done i a b c lt x y z (inl e) =
-        let old_there : slice_get now index ≡ Some old = slice_get-get_or now index old within ∙ ap Some (sym was) in
-        let more_there : slice_get all index ≡ Some more = slice_get-get_or all index more within_all ∙ ap Some (sym is) in
-        let from : old ≡ a = some_is (sym old_there ∙ m.todo index (omega arith) ∙ ap (slice_get first) (sym e) ∙ x) in
-        let by : more ≡ b = some_is (sym more_there ∙ ap (slice_get all) (sym e) ∙ y) in
-        let to : new ≡ c = some_is (sym (slice_get-set_same now index new within) ∙ ap (slice_get (set now index new)) (sym e) ∙ z) in
-        subst (λ o. TakesAll o b c) from (subst (λ o. TakesAll old o c) by (subst (TakesAll old more) to takes))
-    done i a b c lt x y z (inr ne) = m.done i a b c (omega arith) x y (sym (slice_get-set_other now index new i ne) ∙ z)
+  within_all : index < length all
+  within_all = let long = ap length whole ∙ length-append left (more ∷ m.gone) in omega (arith, long, at)
+
+  within : index < length now
+  within =
+      let long = sym (length-map now (λ a. a.function)) ∙ ap length (m.functions ∙ same) ∙ length-map all (λ a. a.function) in
+      omega (arith, long, within_all)
+
+  more_there : slice_get all index ≡ Some more
+  more_there =
+      slice_get_read all (length all) index more refl within_all
+      (sym (subst (λ k. get_or all k more ≡ more) (sym at) (ap (λ l. get_or l (length left) more) whole ∙ get_or-append_seam left more m.gone more)))
+
+  less : count_held rest ≡ count_held left + count_of more
+  less =
+      let joined = ap (sum_by count_of) cut ∙ sum_by-append count_of left (more ∷ []) in
+      let one = sum_by-cons count_of more [] in
+      omega (arith, joined, one)
+
+  module _ (old : Aggregation) (was : old ≡ get_or now index old) where
+    old_there : slice_get now index ≡ Some old
+    old_there = slice_get-get_or now index old within ∙ ap Some (sym was)
+
+    pub tables_function : old.function ≡ more.function
+    tables_function =
+        some_is (sym (ap (option_map (λ a. a.function)) old_there) ∙ sym (slice_get-map (λ a. a.function) now index)
+        ∙ ap (λ fs. slice_get fs index) (m.functions ∙ same) ∙ slice_get-map (λ a. a.function) all index
+        ∙ ap (option_map (λ a. a.function)) more_there)
+
+    module _ (new : Aggregation) (kept : new.function ≡ old.function) where
+      pub tables_functions : functions_of (set now index new) ≡ functions_of first
+      tables_functions = map-set_same (λ a. a.function) now index new old (kept ∙ ap (λ a. a.function) was) ∙ m.functions
+
+      pub tables_more : TakesAll old more new → count_of new ≤ count_of old + count_of more → MergingTables first all left (set now index new)
+      tables_more takes count = record {
+        gone = more ∷ m.gone;
+        whole = whole;
+        functions = tables_functions;
+        done = λ i a b c past x y z. done i a b c past x y z (cases_eq i index);
+        todo = λ i lt. slice_get-set_other now index new i (λ e. omega (arith, e, at, lt)) ∙ m.todo i (omega (arith, longer, lt));
+        held =
+            let sums = sum_by-set count_of now index new old within in
+            let here : count_of old ≡ count_of (get_or now index old) = ap count_of was in
+            let before = m.held in
+            omega (arith, sums, here, before, less, count);
+      }
+        where
+          done : (i : ℕ) (a b c : Aggregation) → length left ≤ i → slice_get first i ≡ Some a → slice_get all i ≡ Some b → slice_get (set now index new) i ≡ Some c
+              → ((i ≡ index) ⊎ (i ≡ index → ⊥)) → TakesAll a b c
+          done i a b c past x y z (inl e) =
+              let from : old ≡ a = some_is (sym old_there ∙ m.todo index (omega (arith, longer, at)) ∙ ap (slice_get first) (sym e) ∙ x) in
+              let by : more ≡ b = some_is (sym more_there ∙ ap (slice_get all) (sym e) ∙ y) in
+              let to : new ≡ c = some_is (sym (slice_get-set_same now index new within) ∙ ap (slice_get (set now index new)) (sym e) ∙ z) in
+              subst (λ o. TakesAll o b c) from (subst (λ o. TakesAll old o c) by (subst (TakesAll old more) to takes))
+          done i a b c past x y z (inr ne) =
+              let apart : i ≢ length left = λ e. ne (e ∙ sym at) in
+              m.done i a b c (omega (arith, longer, past, apart)) x y (sym (slice_get-set_other now index new i ne) ∙ z)
 
 pub tables_all : (first all now : List Aggregation) (xs ys : List Contribution) → functions_of first ≡ functions_of all
-    → MergingTables first all (length all) now → StandsFor first xs → StandsFor all ys → StandsFor now (xs ++ ys)
+    → MergingTables first all [] now → StandsFor first xs → StandsFor all ys → StandsFor now (xs ++ ys)
 tables_all first all now xs ys same m stands stands_all agg key =
     subst (HasEntry (slice_get now agg) key) (sym (arguments_of-append agg key xs ys))
     (at (slice_get now agg) (slice_get first agg) (slice_get all agg) refl refl refl (by_function now first m.functions) (by_function first all same) (stands agg key) (stands_all agg key))
@@ -160,34 +181,10 @@ tables_all first all now xs ys same m stands stands_all agg key =
     at (Some new) (Some old) (Some more) c a b e f hx hy =
         let kept : new.function ≡ old.function = some_is e in
         let one : old.function ≡ more.function = some_is f in
-        let takes = m.done agg old more new (slice_get_within all agg more b) a b c in
+        let takes = m.done agg old more new (omega arith) a b c in
         subst (λ g. IsEntry g (entry_at key new) (arguments_of agg key xs ++ arguments_of agg key ys)) (sym kept)
         (takes key (arguments_of agg key xs) (arguments_of agg key ys) hx (subst (λ g. IsEntry g (entry_at key more) (arguments_of agg key ys)) (sym one) hy))
     at None (Some old) ob c a b e f hx hy = absurd cc
     at (Some new) None ob c a b e f hx hy = absurd cc
     at None None (Some more) c a b e f hx hy = absurd cc
     at (Some new) (Some old) None c a b e f hx hy = absurd cc
-
--- both tables have as many aggregations
-pub tables_length : (first all now : List Aggregation) (index : ℕ) → functions_of first ≡ functions_of all → MergingTables first all index now
-    → length now ≡ length all
-tables_length first all now index same m =
-    sym (length-map now (λ a. a.function)) ∙ ap length (m.functions ∙ same) ∙ length-map all (λ a. a.function)
-
--- the aggregation at the index has the function of what it takes
-pub tables_function : (first all now : List Aggregation) (index : ℕ) (old more : Aggregation) → functions_of first ≡ functions_of all
-    → MergingTables first all index now → index < length now → old ≡ get_or now index old
-    → index < length all → more ≡ get_or all index more → old.function ≡ more.function
-tables_function first all now index old more same m within was within_all is =
-    let old_there : slice_get now index ≡ Some old = slice_get-get_or now index old within ∙ ap Some (sym was) in
-    let more_there : slice_get all index ≡ Some more = slice_get-get_or all index more within_all ∙ ap Some (sym is) in
-    some_is (sym (ap (option_map (λ a. a.function)) old_there) ∙ sym (slice_get-map (λ a. a.function) now index)
-    ∙ ap (λ fs. slice_get fs index) (m.functions ∙ same) ∙ slice_get-map (λ a. a.function) all index
-    ∙ ap (option_map (λ a. a.function)) more_there)
-
-pub enumerated : (all : List Aggregation) (i : ℕ) (p : ℕ × Aggregation) → i < length (enumerate_from 0 all) → p ≡ get_or (enumerate_from 0 all) i p
-    → (p.0 ≡ i) × (i < length all) × (p.1 ≡ get_or all i p.1)
-enumerated all i p lt is =
-    let within : i < length all = subst (λ n. i < n) (length-enumerate_from 0 all) lt in
-    let at = is ∙ get_or-enumerate_from 0 all i p within in
-    (ap (λ q. q.0) at ∙ zero-add i, within, ap (λ q. q.1) at)

@@ -25,8 +25,9 @@ use Rattle.aggregations.specs.declared.held.Held.{Held}
 use Rattle.aggregations.specs.declared.held.Held.TheVariants.{Counted, Summed, Least, Greatest}
 use Rattle.aggregations.specs.declared.held.Held.TheVariants.{Mean, Counts}
 use Rattle.aggregations.specs.Buckets.{buckets, is_in, counts_of}
-use Rattle.aggregations.specs.Values.{total, IsLeast, IsGreatest, IsSum, IsValue}
-use Rattle.aggregations.specs.Table.{Contribution, Aggregation, SameItems, arguments_of, is_for}
+use Rattle.aggregations.specs.Values.{total, IsValue}
+use Rattle.aggregations.proofs.Measures.{is_for, IsLeast, IsGreatest, IsSum}
+use Rattle.aggregations.specs.Table.{Contribution, Aggregation, SameItems, arguments_of}
 use Rattle.aggregations.specs.Table.{entry_at, IsEntry, HasEntry, StandsFor}
 use Rattle.aggregations.proofs.HistogramLemmas.{seen}
 

@@ -12,7 +12,7 @@ use Rattle.std.proofs.Math.Nat.{mul-le-mul_right}
 use Rattle.aggregations.specs.declared.scale.Scale.{Scale}
 use Rattle.aggregations.specs.declared.scale.Scale.TheVariants.{Powers, Steps}
 use Rattle.aggregations.specs.declared.linear_range.LinearRange.{LinearRange}
-use Rattle.aggregations.specs.Ranges.{are_bounds, is_one_to}
+use Rattle.aggregations.specs.Ranges.{is_one_to}
 use Rattle.aggregations.specs.Buckets.{buckets, label, levels_of}
 use Rattle.aggregations.specs.Values.{total}
 use Rattle.aggregations.specs.Figures.{rank_of}
@@ -101,6 +101,9 @@ power_small b lt = at (cases_lt b 63) (cases_eq b 63)
         let is = high_label b (b - 64) (omega arith) refl in
         let p = powers (b - 64) 62 (omega arith) in
         omega (arith, ints)
+
+abbrev pub are_bounds : ℤ → ℤ → Bool
+are_bounds lower upper = int_le (neg_ℤ (pos (2 ^ 31))) lower && int_lt lower upper && int_lt upper (pos (2 ^ 31))
 
 -- what a range keeps, as numbers
 pub range_known : (r : LinearRange) → (neg_ℤ (pos (2 ^ 31)) ≤ℤ r.lower) × (r.lower <ℤ pos (2 ^ 31)) × (r.step ≤ 65535) × (levels_of r ≤ 65535)

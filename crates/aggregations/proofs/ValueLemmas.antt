@@ -19,7 +19,8 @@ use Rattle.aggregations.specs.declared.held.Held.TheVariants.{Counted, Summed, L
 use Rattle.aggregations.specs.declared.held.Held.TheVariants.{Mean, Counts}
 use Rattle.aggregations.specs.Histograms.{Histogram, histogram_of}
 use Rattle.aggregations.specs.Buckets.{buckets, counts_of, is_in}
-use Rattle.aggregations.specs.Values.{total, IsSum, IsLeast, IsGreatest, IsValue}
+use Rattle.aggregations.specs.Values.{total, IsValue}
+use Rattle.aggregations.proofs.Measures.{IsSum, IsLeast, IsGreatest}
 use Rattle.aggregations.specs.Steps.Values.{TakesOne}
 use Rattle.aggregations.specs.Values.{count_in}
 use Rattle.aggregations.specs.Steps.Values.{TakesBoth}

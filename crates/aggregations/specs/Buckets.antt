@@ -35,8 +35,7 @@ label (Steps r) (suc i) = r.lower +ℤ pos (i * r.step)
 -- the bucket has the greatest label that is not above x
 abbrev pub is_greatest_up_to : Scale → ℕ → ℤ → Bool
 is_greatest_up_to scale b x =
-    int_le (label scale b) x
-    && ((suc b == buckets scale) || int_lt x (label scale (suc b)))
+    int_le (label scale b) x && ((suc b == buckets scale) || int_lt x (label scale (suc b)))
 
 -- the bucket has the least label that is not below x
 abbrev pub is_least_from : Scale → ℕ → ℤ → Bool

@@ -1,11 +1,13 @@
 -- What a table of aggregations stands for: a list of contributions.
 -- Source: Dynamic Tracing Guide, "Aggregations".
-use Rattle.std.specs.Prelude.{◌≡◌, ◌≢◌, ℕ, Bool, ◌==◌, ◌&&◌, ℤ, Option, None, Some}
-use Rattle.std.specs.Prelude.{List, [], filter, map, slice_get, sum_by}
+use Rattle.std.specs.Prelude.{◌≡◌, ◌≢◌, ◌≤◌, ◌+◌, ℕ, ◌==◌, ◌&&◌, ⊤, ℤ, Option, None, Some, Result}
+use Rattle.std.specs.Prelude.{List, [], ◌∷◌, ◌++◌, OnErr, OnOk, filter, map, slice_get, sum_by}
 use Rattle.std.specs.{List.IsDistinct, Map.keys_of, Map.values_of, Map.lookup}
 use Rattle.aggregations.specs.Vocabulary.{AggFn, KeyPart, same_key}
 use Rattle.aggregations.specs.declared.held.Held.{Held}
+use Rattle.aggregations.specs.declared.word_key.WordKey.{WordKey}
 use Rattle.aggregations.specs.Values.{IsValue, count_in}
+use Rattle.numbered.specs.Words.{key_in}
 
 -- one argument, for a key of an aggregation
 pub record Contribution : Type 0 where
@@ -34,13 +36,10 @@ count_of a = sum_by count_in (values_of a.entries)
 abbrev pub count_held : List Aggregation → ℕ
 count_held table = sum_by count_of table
 
--- the contribution is for this key of this aggregation
-abbrev pub is_for : ℕ → List KeyPart → Contribution → Bool
-is_for agg key c = (c.agg == agg) && same_key c.key key
-
 -- the arguments that the contributions give to a key of an aggregation, in order
 abbrev pub arguments_of : ℕ → List KeyPart → List Contribution → List ℤ
-arguments_of agg key contributions = map (λ c. c.arg) (filter (is_for agg key) contributions)
+arguments_of agg key contributions =
+    map (λ c. c.arg) (filter (λ c. (c.agg == agg) && same_key c.key key) contributions)
 
 -- what an aggregation has at the key
 abbrev pub entry_at : List KeyPart → Aggregation → Option Held
@@ -61,6 +60,19 @@ abbrev pub StandsFor : List Aggregation → List Contribution → Type 0
 StandsFor table contributions =
     (agg : ℕ) (key : List KeyPart)
     → HasEntry (slice_get table agg) key (arguments_of agg key contributions)
+
+-- one argument went to a key of an aggregation, or memory was refused, and nothing changed
+pub record Contributes (old new : List Aggregation) (agg : ℕ) (key : List KeyPart) (arg : ℤ)
+    {E : Type 0} (r : Result ⊤ E) : Type 0 where
+  pub functions : functions_of new ≡ functions_of old
+  pub ok : OnOk r ((contributions : List Contribution) → StandsFor old contributions
+      → StandsFor new (contributions ++ contribution agg key arg ∷ []))
+  pub held : count_held new ≤ count_held old + 1
+  pub err : OnErr r (new ≡ old)
+
+-- the key that words make
+abbrev pub key_made : WordKey → List KeyPart
+key_made made = key_in made.texts.now made.words.now
 
 -- the entries that the contributions give an aggregation, in any order
 pub record AreEntries (function : AggFn) (agg : ℕ) (contributions : List Contribution)

@@ -21,25 +21,14 @@ abbrev pub total : List ℤ → ℤ
 total [] = pos 0
 total (x ∷ xs) = x +ℤ total xs
 
--- their total as a 64-bit number
-abbrev pub IsSum : ℤ → List ℤ → Type 0
-IsSum s args = s ≡ int_wrap w64 (total args)
-
--- m is one of them, and none is below it
-abbrev pub IsLeast : ℤ → List ℤ → Type 0
-IsLeast m args = Contains args m × All (λ x. m ≤ℤ x) args
-
--- m is one of them, and none is above it
-abbrev pub IsGreatest : ℤ → List ℤ → Type 0
-IsGreatest m args = Contains args m × All (λ x. x ≤ℤ m) args
-
--- what is held is what the function makes of the arguments
+-- What is held is what the function makes of the arguments. A sum is their total as a 64-bit
+-- number; a minimum is one of them, and none is below it.
 abbrev pub IsValue : AggFn → Held → List ℤ → Type 0
 IsValue Count (Counted n) args = n ≡ length args
-IsValue Sum (Summed s) args = IsSum s args
-IsValue Min (Least m) args = IsLeast m args
-IsValue Max (Greatest m) args = IsGreatest m args
-IsValue Avg (Mean m) args = IsSum m.sum args × (m.count ≡ length args)
+IsValue Sum (Summed s) args = s ≡ int_wrap w64 (total args)
+IsValue Min (Least m) args = Contains args m × All (λ x. m ≤ℤ x) args
+IsValue Max (Greatest m) args = Contains args m × All (λ x. x ≤ℤ m) args
+IsValue Avg (Mean m) args = (m.sum ≡ int_wrap w64 (total args)) × (m.count ≡ length args)
 IsValue Quantize (Counts h) args = h ≡ histogram_of Powers args
 IsValue (Lquantize range) (Counts h) args = h ≡ histogram_of (Steps range) args
 IsValue function held args = ⊥

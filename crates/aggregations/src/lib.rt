@@ -5,7 +5,6 @@ mod entries;
 mod function;
 mod held;
 mod histogram;
-mod index_cache;
 pub mod laws;
 mod linear_range;
 mod partial;

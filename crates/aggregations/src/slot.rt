@@ -2,7 +2,6 @@
 
 ghost use Rattle.std.specs.Prelude.{◌≡◌, ◌+◌, ◌<◌, ◌≤◌, ◌^◌, [], map, IfOk, IfSome, IsNone, OnOk};
 ghost use Rattle.std.specs.Prelude.{OnErr};
-ghost use Rattle.numbered.specs.Words.{key_in};
 
 use crate::entries::Entries;
 use crate::function::AggFn;
@@ -39,9 +38,9 @@ impl Model for Slot {
 }
 
 impl Slot {
-    ghost use Rattle.aggregations.specs.{Table.count_of};
+    ghost use Rattle.aggregations.specs.{Table.count_of, Table.key_made};
     ghost use Rattle.aggregations.specs.Vocabulary.{IsDistinct, deref_pair, keys_of, same_key};
-    ghost use Rattle.aggregations.specs.Steps.Entries.{TakesAll, TakesArgument};
+    ghost use Rattle.aggregations.specs.Steps.Entries.{Adds, Merges};
 
     /// An aggregation without entries.
     pub(crate) fn new(function: AggFn) -> Slot
@@ -69,10 +68,7 @@ impl Slot {
         arg: i64,
     ) -> Result<(), AllocError>
         requires { count_of self.old < 2 ^ 52 }
-        ensures function { self.new.function ≡ self.old.function }
-        ensures ok { OnOk result (TakesArgument self.old self.new key.now arg) }
-        ensures count { count_of self.new ≤ count_of self.old + 1 }
-        ensures err { OnErr result (self.new ≡ self.old) }
+        ensures { Adds self.old self.new key.now arg result }
     {
         match &mut self.entries {
             Some(entries) => entries.add(key, arg),
@@ -100,11 +96,7 @@ impl Slot {
         arg: i64,
     ) -> Result<(), AllocError>
         requires { count_of self.old < 2 ^ 52 }
-        ensures function { self.new.function ≡ self.old.function }
-        ensures ok { OnOk result (TakesArgument self.old self.new
-            (key_in made.entry.texts.now made.entry.words.now) arg) }
-        ensures count { count_of self.new ≤ count_of self.old + 1 }
-        ensures err { OnErr result (self.new ≡ self.old) }
+        ensures { Adds self.old self.new (key_made made.entry) arg result }
     {
         if let Some(entries) = &mut self.entries {
             return entries.add_words(made, arg);
@@ -117,9 +109,7 @@ impl Slot {
     pub(crate) fn merge(&mut self, other: Slot) -> Result<(), AllocError>
         requires function { self.old.function ≡ other.function }
         requires room { count_of self.old + count_of other ≤ 2 ^ 52 }
-        ensures function { self.new.function ≡ self.old.function }
-        ensures ok { OnOk result (TakesAll self.old other self.new) }
-        ensures count { count_of self.new ≤ count_of self.old + count_of other }
+        ensures { Merges self.old other self.new result }
     {
         let Some(more) = other.entries else {
             return Ok(());

@@ -2,7 +2,7 @@
 
 ghost use Rattle.std.specs.Prelude.{◌≡◌, ◌<◌, length, slice_set, IfOk, OnOk, IsTrue};
 ghost use Rattle.d_values.specs.{Keys.part_of, Stores.lent_value};
-ghost use Rattle.numbered.specs.Words.{key_in};
+ghost use Rattle.aggregations.specs.{Table.key_made};
 
 use d_values::{Key, KeyPart, ValueRef};
 use numbered::{Texts, Word};
@@ -22,7 +22,7 @@ pub struct WordKey<'a> {
 /// Whether the words are of the key.
 #[inline(always)]
 pub(crate) fn is_key_of(key: &Key, made: WordKey<'_>) -> bool
-    ensures { IsTrue result → key.now ≡ key_in made.entry.texts.now made.entry.words.now }
+    ensures { IsTrue result → key.now ≡ key_made made.entry }
 {
     let parts = key.parts();
     if parts.len() != made.words.len() {
@@ -38,7 +38,7 @@ pub(crate) fn is_key_of(key: &Key, made: WordKey<'_>) -> bool
 
 /// The key of words, in the room of another if both have as many parts.
 pub(crate) fn key_in_room(alloc: Global, room: Key, made: WordKey<'_>) -> Result<Key, AllocError>
-    ensures { IfOk result (λ key. key ≡ key_in made.entry.texts.now made.entry.words.now) }
+    ensures { IfOk result (λ key. key ≡ key_made made.entry) }
 {
     let mut key = with_parts(alloc, room, made.words.len())?;
     for index in 0..made.words.len() {

@@ -1,13 +1,12 @@
 -- What the calls answer, as numbers.
-use Rattle.std.specs.Prelude.{◌≡◌, ℕ, suc, ◌+◌, ◌-◌, ◌*◌, ◌%◌, ◌^◌, ◌<◌, ℤ, pos, negsuc, neg_ℤ}
+use Rattle.std.specs.Prelude.{◌≡◌, ℕ, ◌-◌, ◌%◌, ◌^◌, ◌<◌, ℤ, pos, negsuc, neg_ℤ}
 use Rattle.std.specs.Prelude.{◌-ℤ◌, Bool, true, false, if◌then◌else◌}
 use Rattle.std.proofs.Common.{refl, sym, ap, ◌∙◌, arith}
 use Rattle.std.proofs.lemmas.Bool.Decides.{nat_tests}
 use Rattle.std.proofs.lemmas.Int.{ints}
 use Rattle.std.specs.Int.{cast_signed, w64}
 use Rattle.std.specs.Ordering.{nat_cmp, int_cmp}
-use Rattle.d_values.specs.Words.{narrow, operate, shift_result, difference_of, shift_of}
-use Rattle.d_values.specs.Words.{opposite_of, complement_of, order_of}
+use Rattle.d_values.specs.Words.{narrow, operate, shift_result, difference_of, shift_of, order_of}
 use Rattle.d_values.specs.Numbers.{number_of, read, bits_of, modulo, wrap, whole_of, whole_shift_of}
 use Rattle.d_values.specs.declared.int_type.IntType.{IntType}
 use Rattle.d_values.specs.declared.operators.ArithmeticOperator.{ArithmeticOperator}
@@ -35,7 +34,7 @@ neg_is : (signed : Bool) (z : ℤ) → neg_ℤ z ≡ read signed 0 -ℤ z
 neg_is true z = omega (arith, ints)
 neg_is false z = omega (arith, ints)
 
-pub opposites : (t : IntType) (a : ℕ) → a < 2 ^ 64 → number_of t (opposite_of t a) ≡ wrap t (neg_ℤ (number_of t a))
+pub opposites : (t : IntType) (a : ℕ) → a < 2 ^ 64 → number_of t (narrow t (difference_of 0 a)) ≡ wrap t (neg_ℤ (number_of t a))
 opposites t a small =
     number-narrow t (neg_ℤ (number_of t a)) (difference_of 0 a)
     (ap bits_of (neg_is t.signed (number_of t a)) ∙ operated Subtract t.signed 0 a (omega arith) small)
@@ -44,7 +43,7 @@ turned : (z : ℤ) → bits_of (neg_ℤ z -ℤ pos 1) ≡ 2 ^ 64 - 1 - bits_of z
 turned (pos n) = let e : neg_ℤ (pos n) -ℤ pos 1 ≡ negsuc n = omega (arith, ints) in ap bits_of e
 turned (negsuc n) = let e : neg_ℤ (negsuc n) -ℤ pos 1 ≡ pos n = omega (arith, ints) in ap bits_of e ∙ omega arith
 
-pub complements : (t : IntType) (a : ℕ) → a < 2 ^ 64 → number_of t (complement_of t a) ≡ wrap t (neg_ℤ (number_of t a) -ℤ pos 1)
+pub complements : (t : IntType) (a : ℕ) → a < 2 ^ 64 → number_of t (narrow t (2 ^ 64 - 1 - a)) ≡ wrap t (neg_ℤ (number_of t a) -ℤ pos 1)
 complements t a small =
     number-narrow t (neg_ℤ (number_of t a) -ℤ pos 1) (2 ^ 64 - 1 - a)
     (turned (number_of t a) ∙ ap (λ n. 2 ^ 64 - 1 - n) (bits_of-read t.signed a small))

@@ -1,16 +1,16 @@
 -- 64-bit results are those on numbers, modulo 2 ^ 64.
-use Rattle.std.specs.Prelude.{◌≡◌, ◌≢◌, ℕ, zero, suc, ◌+◌, ◌-◌, ◌*◌, ◌/◌, ◌%◌, ◌^◌, ◌<◌, ◌≤◌, ℤ}
-use Rattle.std.specs.Prelude.{pos, negsuc, neg_ℤ, ◌+ℤ◌, ◌-ℤ◌, ◌*ℤ◌, Bool, true, false, bit_and}
-use Rattle.std.specs.Prelude.{bit_or, bit_xor, int_div, int_rem, unsigned_abs, if◌then◌else◌}
-use Rattle.std.proofs.Common.{refl, sym, ap, ◌∙◌, arith, rules, inl, inr, subst}
-use Rattle.std.specs.Int.{int_rem_euclid, int_wrap, int_shr, cast_signed, cast_unsigned, w64}
+use Rattle.std.specs.Prelude.{◌≡◌, ℕ, zero, suc, ◌+◌, ◌-◌, ◌*◌, ◌/◌, ◌%◌, ◌^◌, ◌<◌, ◌≤◌, ℤ}
+use Rattle.std.specs.Prelude.{pos, negsuc, neg_ℤ, ◌-ℤ◌, ◌*ℤ◌, Bool, true, false, bit_and}
+use Rattle.std.specs.Prelude.{bit_or, bit_xor, int_div, int_rem, unsigned_abs}
+use Rattle.std.proofs.Common.{refl, sym, ap, ◌∙◌, arith, inl, inr, subst}
+use Rattle.std.specs.Int.{int_wrap, int_shr, cast_signed, cast_unsigned, w64}
 use Rattle.std.proofs.lemmas.Int.{ints, to_z_pos, of_z-to_z, wrapping_add-bits, wrapping_sub-bits}
 use Rattle.std.proofs.lemmas.Int.{wrapping_mul-bits, int_wrap-mul_left, int_rem_euclid_is}
 use Rattle.std.proofs.lemmas.Bool.{cases_lt}
-use Rattle.std.proofs.lemmas.Nat.{mod_below, and_le_l, or_lt, xor_lt, shr_le}
+use Rattle.std.proofs.lemmas.Nat.{and_le_l, or_lt, xor_lt}
 use Rattle.std.proofs.Math.Nat.{div-le_self, mod-le}
 use Rattle.std.proofs.Math.Facts.{to_z-neg}
-use Rattle.d_values.specs.Numbers.{modulo, bits_of, read, whole_of, whole_shift_of}
+use Rattle.d_values.specs.Numbers.{bits_of, read, whole_of, whole_shift_of}
 use Rattle.d_values.specs.Words.{operate, shift_result, sum_of, difference_of}
 use Rattle.d_values.specs.declared.operators.ArithmeticOperator.{ArithmeticOperator}
 use Rattle.d_values.specs.declared.operators.ArithmeticOperator.TheVariants.{Multiply, Divide}

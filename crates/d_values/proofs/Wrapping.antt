@@ -1,7 +1,6 @@
 -- A narrowed word stands for its number wrapped into the type.
-use Rattle.std.specs.Prelude.{◌≡◌, ◌≢◌, ℕ, suc, ◌+◌, ◌-◌, ◌*◌, ◌/◌, ◌%◌, ◌^◌, ◌<◌, ◌≤◌, ℤ, pos}
-use Rattle.std.specs.Prelude.{negsuc, ◌+ℤ◌, ◌-ℤ◌, ◌*ℤ◌, Bool, true, false, ◌&&◌, ◌||◌, ◌==◌, nat_le}
-use Rattle.std.specs.Prelude.{unsigned_abs, if◌then◌else◌}
+use Rattle.std.specs.Prelude.{◌≡◌, ◌≢◌, ℕ, suc, ◌+◌, ◌-◌, ◌*◌, ◌%◌, ◌^◌, ◌<◌, ◌≤◌, ℤ, pos}
+use Rattle.std.specs.Prelude.{negsuc, ◌-ℤ◌, true, false}
 use Rattle.std.proofs.Common.{refl, sym, ap, ◌∙◌, arith, inl, inr, subst}
 use Rattle.std.specs.Int.{cast_signed, w64}
 use Rattle.std.proofs.lemmas.Bool.{cases_lt, cases_eq}
@@ -13,7 +12,7 @@ use Rattle.d_values.specs.Words.{sign_extension, narrow}
 use Rattle.d_values.specs.Numbers.{number_of, read, modulo, bits_of, number_of_bits, wrap}
 use Rattle.d_values.specs.declared.int_type.IntType.{IntType}
 use Rattle.d_values.proofs.Residues.{cast_signed-high}
-use Rattle.d_values.proofs.Narrowing.{width_positive, extended_high, extended_low, extended_plain}
+use Rattle.d_values.proofs.Narrowing.{extended_high, extended_low, extended_plain}
 
 last : (w : ℕ) → is_width w ≡ true → w ≢ 8 → w ≢ 16 → w ≢ 32 → w ≡ 64
 last w known not8 not16 not32 = grind (arith, nat_tests)

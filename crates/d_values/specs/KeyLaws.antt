@@ -4,7 +4,7 @@ use Rattle.std.specs.Prelude.{◌≡◌, ℕ, List, [], ℤ, pos}
 use Rattle.std.specs.Cmp.{signed_Decides, nat_cmp_total, int_cmp_total, on_total, then_total}
 use Rattle.std.specs.Cmp.Lexicographic.{pointwise_decides, lists_total, lists_ties}
 use Rattle.std.specs.Ordering.{on, then_cmp, ordering_then}
-use Rattle.std.proofs.Common.{refl, ap, subst}
+use Rattle.std.proofs.Common.{refl, sym, ap, ◌∙◌, subst}
 use Rattle.d_values.specs.Vocabulary.{Decides, IsEquivalence, IsTotalOrder, decided, nat_cmp}
 use Rattle.d_values.specs.Vocabulary.{int_cmp, eq_by_cmp, Ordering, Less, Equal, Greater, KeyPart}
 use Rattle.d_values.specs.declared.key.KeyPart.TheVariants.{Number, Name}
@@ -21,14 +21,8 @@ same_part_decides (Name x) (Number y) = (λ e. cc, λ e. cc)
 same_part_decides (Name x) (Name y) =
     (λ e. ap Name ((same_text_decides x y).0 e), λ e. (same_text_decides x y).1 cc)
 
-pub same_key_decides : (x y : List KeyPart) → Decides (same_key x y) (x ≡ y)
-same_key_decides = pointwise_decides same_part_decides
-
 pub same_part_equiv : IsEquivalence same_part
 same_part_equiv = decided same_part same_part_decides
-
-pub same_key_equiv : IsEquivalence same_key
-same_key_equiv = decided same_key same_key_decides
 
 -- ---- the orders are total
 
@@ -80,5 +74,17 @@ part_cmp_ties (Number x) (Name y) = refl
 part_cmp_ties (Name x) (Number y) = refl
 part_cmp_ties (Name x) (Name y) = text_cmp_ties x y
 
+ties_decide : (x y : KeyPart) → Decides (eq_by_cmp part_cmp x y) (x ≡ y)
+ties_decide x y = (
+  λ e. (same_part_decides x y).0 (part_cmp_ties x y ∙ e),
+  λ e. sym (part_cmp_ties x y) ∙ (same_part_decides x y).1 e,
+)
+
+pub same_key_decides : (x y : List KeyPart) → Decides (same_key x y) (x ≡ y)
+same_key_decides = pointwise_decides ties_decide
+
+pub same_key_equiv : IsEquivalence same_key
+same_key_equiv = decided same_key same_key_decides
+
 pub key_cmp_ties : (x y : List KeyPart) → same_key x y ≡ eq_by_cmp key_cmp x y
-key_cmp_ties = lists_ties part_cmp part_cmp_ties
+key_cmp_ties = lists_ties part_cmp (λ x y. refl)

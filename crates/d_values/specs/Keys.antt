@@ -1,7 +1,8 @@
 -- When keys are the same, and their order.
 use Rattle.std.specs.Prelude.{◌≡◌, ◌≢◌, ℕ, Bool, false, List, [], ◌∷◌, ◌++◌}
 use Rattle.std.specs.{Ordering.int_eq, Hash.i64}
-use Rattle.d_values.specs.Vocabulary.{pointwise, slice_cmp, int_cmp, cast_signed, w64, Ordering}
+use Rattle.d_values.specs.Vocabulary.{pointwise, slice_cmp, int_cmp, eq_by_cmp, cast_signed, w64}
+use Rattle.d_values.specs.Vocabulary.{Ordering}
 use Rattle.d_values.specs.Vocabulary.{Less, Greater, KeyPart, Value}
 use Rattle.d_values.specs.declared.key.KeyPart.TheVariants.{Number, Name}
 use Rattle.d_values.specs.Texts.{text_cmp, same_text}
@@ -37,9 +38,9 @@ same_part (Number x) (Number y) = int_eq x y
 same_part (Name x) (Name y) = same_text x y
 same_part _ _ = false
 
--- the same parts
+-- as many parts, and of each two neither comes before the other
 abbrev pub same_key : List KeyPart → List KeyPart → Bool
-same_key = pointwise same_part
+same_key = pointwise (eq_by_cmp part_cmp)
 
 -- what a part feeds a hasher: its bytes, at once
 abbrev pub part_writes : KeyPart → List (List ℕ)

@@ -66,12 +66,6 @@ binary_of op t a b =
 abbrev pub shift_of : ShiftOperator → IntType → ℕ → ℕ → ℕ
 shift_of op t a count = narrow t (shift_result op t.signed a (count % t.width))
 
-abbrev pub opposite_of : IntType → ℕ → ℕ
-opposite_of t a = narrow t (difference_of 0 a)
-
-abbrev pub complement_of : IntType → ℕ → ℕ
-complement_of t a = narrow t (2 ^ 64 - 1 - a)
-
 -- the order of two words of the type
 abbrev pub order_of : IntType → ℕ → ℕ → Ordering
 order_of t a b = if t.signed then int_cmp (cast_signed w64 a) (cast_signed w64 b) else nat_cmp a b

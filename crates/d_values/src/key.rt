@@ -1,12 +1,12 @@
 //! Keys of aggregations and of variables.
 
-ghost use Rattle.std.specs.Prelude.{◌≡◌, ◌↔◌, ◌<◌, ◌++◌, ◌∷◌, [], length, OnOk, OnErr};
-ghost use Rattle.std.specs.Prelude.{IsTrue, slice_set, refl};
+ghost use Rattle.std.specs.Prelude.{◌≡◌, ◌↔◌, ◌<◌, ◌++◌, ◌∷◌, [], length, IsTrue};
+ghost use Rattle.std.specs.Prelude.{slice_set, refl};
 ghost use Rattle.d_values.specs.Vocabulary.{ap, partial_equiv_from_equiv, po, flat_map};
 ghost use Rattle.d_values.specs.Vocabulary.{as_partial_cmp};
 ghost use Rattle.d_values.specs.Keys.{part_cmp, part_of, key_cmp, same_part, same_key};
 ghost use Rattle.d_values.specs.Keys.{DecidesByFirstDifference, part_writes};
-ghost use Rattle.d_values.specs.Stores.{lent_value};
+ghost use Rattle.d_values.specs.{Outcomes.AllOrNothing, Stores.lent_value};
 ghost use Rattle.d_values.specs.KeyLaws.{same_part_decides, same_part_equiv, part_cmp_total};
 ghost use Rattle.d_values.specs.KeyLaws.{part_cmp_ties, same_key_decides, same_key_equiv};
 ghost use Rattle.d_values.specs.KeyLaws.{key_cmp_total, key_cmp_ties};
@@ -51,8 +51,7 @@ impl KeyPart {
 
     // Becomes this text, reusing the room of its old text.
     fn set_name(&mut self, alloc: Global, bytes: &[u8]) -> Result<(), AllocError>
-        ensures ok { OnOk result (self.new ≡ KeyPart.Name bytes.now) }
-        ensures err { OnErr result (self.new ≡ self.old) }
+        ensures { AllOrNothing result self.old self.new (self.new ≡ KeyPart.Name bytes.now) }
     {
         match self {
             KeyPart::Number(_) => {
@@ -201,8 +200,7 @@ impl Key {
     /// key.parts(); // the number 7 and the text `cat`
     /// ```
     pub fn push(&mut self, part: KeyPart) -> Result<(), AllocError>
-        ensures ok { OnOk result (self.new ≡ self.old ++ part ∷ []) }
-        ensures err { OnErr result (self.new ≡ self.old) }
+        ensures { AllOrNothing result self.old self.new (self.new ≡ self.old ++ part ∷ []) }
     {
         self.parts.push(part)?;
         Ok(())
@@ -231,8 +229,8 @@ impl Key {
     /// ```
     pub fn set_name(&mut self, index: usize, bytes: &[u8]) -> Result<(), AllocError>
         requires { index < length self.old }
-        ensures ok { OnOk result (self.new ≡ slice_set self.old index (KeyPart.Name bytes.now)) }
-        ensures err { OnErr result (self.new ≡ self.old) }
+        ensures { AllOrNothing result self.old self.new
+            (self.new ≡ slice_set self.old index (KeyPart.Name bytes.now)) }
     {
         let alloc = *self.parts.allocator();
         self.parts[index].set_name(alloc, bytes)

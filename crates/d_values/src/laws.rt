@@ -6,7 +6,7 @@ ghost use Rattle.d_values.specs.Vocabulary.{ArithmeticOperator, IntType, KeyPart
 ghost use Rattle.d_values.specs.Vocabulary.{Value, Var, int_cmp};
 ghost use Rattle.d_values.specs.Numbers.{number_of, whole_of, whole_shift_of, wrap, IsWrapped};
 ghost use Rattle.d_values.specs.Stores.{with_local, with_own};
-ghost use Rattle.d_values.specs.Words.{binary_of, complement_of, narrow, opposite_of, order_of};
+ghost use Rattle.d_values.specs.Words.{binary_of, difference_of, narrow, order_of};
 ghost use Rattle.d_values.specs.Words.{shift_of};
 
 /// A number wrapped into a type is of that type, and equals the number modulo two to the width.
@@ -29,9 +29,9 @@ pub fn operators_are_of_whole_numbers()
         → number_of t (shift_of op t a count)
         ≡ wrap t (whole_shift_of op (number_of t a) (count % t.width)) }
     ensures opposite { (t : IntType) (a : ℕ) → a < 2 ^ 64
-        → number_of t (opposite_of t a) ≡ wrap t (neg_ℤ (number_of t a)) }
+        → number_of t (narrow t (difference_of 0 a)) ≡ wrap t (neg_ℤ (number_of t a)) }
     ensures complement { (t : IntType) (a : ℕ) → a < 2 ^ 64
-        → number_of t (complement_of t a) ≡ wrap t (neg_ℤ (number_of t a) -ℤ pos 1) }
+        → number_of t (narrow t (2 ^ 64 - 1 - a)) ≡ wrap t (neg_ℤ (number_of t a) -ℤ pos 1) }
     ensures order { (t : IntType) (a b : ℕ)
         → order_of t a b ≡ int_cmp (number_of t a) (number_of t b) }
     ensures conversion { (from to : IntType) (a : ℕ) → a < 2 ^ 64

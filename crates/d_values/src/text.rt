@@ -1,6 +1,7 @@
 //! Texts: byte strings that contracts see as lists of bytes.
 
-ghost use Rattle.std.specs.Prelude.{◌≡◌, ◌↔◌, [], ◌∷◌, IfOk, OnOk, OnErr, IsTrue, refl};
+ghost use Rattle.std.specs.Prelude.{◌≡◌, ◌↔◌, [], ◌∷◌, IfOk, IsTrue, refl};
+ghost use Rattle.d_values.specs.{Outcomes.AllOrNothing};
 ghost use Rattle.d_values.specs.Vocabulary.{ap, partial_equiv_from_equiv, po, as_partial_cmp};
 ghost use Rattle.d_values.specs.Texts.{same_text, text_cmp, same_text_decides, same_text_equiv};
 ghost use Rattle.d_values.specs.Texts.{text_cmp_total, text_cmp_ties, joined_text};
@@ -83,22 +84,12 @@ impl Text {
     /// text.as_bytes(); // b"ls"
     /// ```
     pub fn assign(&mut self, bytes: &[u8]) -> Result<(), AllocError>
-        ensures ok { OnOk result (self.new ≡ bytes.now) }
-        ensures err { OnErr result (self.new ≡ self.old) }
+        ensures { AllOrNothing result self.old self.new (self.new ≡ bytes.now) }
     {
         if bytes.len() == self.bytes.len() {
             self.bytes.copy_from_slice(bytes);
             return Ok(());
         }
-        self.refill(bytes)
-    }
-
-    // Takes these bytes, for which it makes room first.
-    #[inline(always)]
-    fn refill(&mut self, bytes: &[u8]) -> Result<(), AllocError>
-        ensures ok { OnOk result (self.new ≡ bytes.now) }
-        ensures err { OnErr result (self.new ≡ self.old) }
-    {
         let more = bytes.len().saturating_sub(self.bytes.len());
         self.bytes.reserve(more)?;
         self.bytes.clear();

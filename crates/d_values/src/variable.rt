@@ -37,7 +37,7 @@ impl PartialEq for Var {
     ghost laws = { partial_equiv_from_equiv same_var_equiv };
 
     fn eq(&self, other: &Var) -> bool {
-        self.code() == other.code()
+        self.slot == other.slot && self.kind == other.kind
     }
 }
 

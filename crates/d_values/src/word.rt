@@ -1,8 +1,8 @@
 //! Integers as 64-bit words, each the extension of a typed value.
 
-ghost use Rattle.std.specs.Prelude.{◌≡◌, pos, neg_ℤ, ◌-ℤ◌};
+ghost use Rattle.std.specs.Prelude.{◌≡◌, ◌-◌, ◌^◌, pos, neg_ℤ, ◌-ℤ◌};
 ghost use Rattle.d_values.specs.Numbers.{number_of, wrap};
-ghost use Rattle.d_values.specs.Words.{narrow, opposite_of, complement_of};
+ghost use Rattle.d_values.specs.Words.{difference_of, narrow};
 
 use crate::int_type::IntType;
 
@@ -41,7 +41,7 @@ pub fn convert(value: u64, from: IntType, to: IntType) -> u64
 /// negate(IntType::INT32, 5); // 2^64 - 5, the word of -5
 /// ```
 pub fn negate(t: IntType, a: u64) -> u64
-    ensures word { result ≡ opposite_of t a }
+    ensures word { result ≡ narrow t (difference_of 0 a) }
     ensures number { number_of t result ≡ wrap t (neg_ℤ (number_of t a)) }
 {
     narrow_word(t, 0u64.wrapping_sub(a))
@@ -53,7 +53,7 @@ pub fn negate(t: IntType, a: u64) -> u64
 /// complement(IntType::UINT8, 1); // 254
 /// ```
 pub fn complement(t: IntType, a: u64) -> u64
-    ensures word { result ≡ complement_of t a }
+    ensures word { result ≡ narrow t (2 ^ 64 - 1 - a) }
     ensures number { number_of t result ≡ wrap t (neg_ℤ (number_of t a) -ℤ pos 1) }
 {
     narrow_word(t, !a)

@@ -1,6 +1,6 @@
 -- Texts with numbers: that of a text is its index in the list.
 use Rattle.std.specs.Prelude.{◌≡◌, ◌<◌, ◌≤◌, ℕ, List, [], length, Some, slice_get}
-use Rattle.std.specs.Prelude.{slice_index_or}
+use Rattle.std.specs.Prelude.{slice_index_or, Result, IfOk, OnErr}
 
 -- the text of a number: the empty one past the last
 abbrev pub text_at : List (List ℕ) → ℕ → List ℕ
@@ -19,3 +19,11 @@ pub record Keeps (old new : List (List ℕ)) : Type 0 where
   pub long : length old ≤ length new
   pub same : (number : ℕ) → number < length old → text_at new number ≡ text_at old number
   pub distinct : AreDistinct old → AreDistinct new
+
+-- the bytes have this number, which a call gave them if they had none; or memory was refused
+pub record Numbers {E : Type 0} (old : List (List ℕ)) (bytes : List ℕ) (result : Result ℕ E)
+    (new : List (List ℕ)) : Type 0 where
+  pub number : IfOk result (λ n. IsNumberOf new n bytes)
+  pub kept : Keeps old new
+  pub distinct : AreDistinct new
+  pub err : OnErr result (new ≡ old)

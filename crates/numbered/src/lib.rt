@@ -8,6 +8,7 @@ mod tuple;
 mod word;
 mod word_table;
 
+pub use index_cache::IndexCache;
 pub use texts::Texts;
 pub use tuple::Tuple;
 pub use word::Word;

@@ -1,8 +1,8 @@
 //! Texts, each with a number.
 
-ghost use Rattle.std.specs.Prelude.{◌≡◌, [], ◌∷◌, IfOk, IfSome, OnErr};
+ghost use Rattle.std.specs.Prelude.{◌≡◌, ◌≤◌, ◌+◌, [], ◌∷◌, IfOk, IfSome, length};
 ghost use Rattle.d_values.specs.Stores.{lent_value};
-ghost use Rattle.numbered.specs.Texts.{AreDistinct, IsNumberOf, Keeps, text_at};
+ghost use Rattle.numbered.specs.Texts.{AreDistinct, IsNumberOf, Numbers, text_at};
 ghost use Rattle.numbered.specs.Words.{value_of};
 
 use crate::index_cache::IndexCache;
@@ -65,11 +65,9 @@ impl Texts {
     /// ```text
     /// texts.number(b"cat")?; // 1, if no other text was met but the empty one
     /// ```
+    #[inline(always)]
     pub fn number(&mut self, bytes: &[u8]) -> Result<u64, AllocError>
-        ensures number { IfOk result (λ n. IsNumberOf self.new n bytes.now) }
-        ensures kept { Keeps self.old self.new }
-        ensures distinct { AreDistinct self.new }
-        ensures err { OnErr result (self.new ≡ self.old) }
+        ensures { Numbers self.old bytes.now result self.new }
     {
         let hash = hash(self.secret, bytes);
         let index = self.cache.get(hash);
@@ -81,13 +79,10 @@ impl Texts {
         self.number_by_hash(bytes, hash)
     }
 
-    // The same if the cache doesn't have it.
-    #[inline(never)]
+    // The number of bytes that the cache doesn't have.
+    #[cold]
     fn number_by_hash(&mut self, bytes: &[u8], hash: u64) -> Result<u64, AllocError>
-        ensures number { IfOk result (λ n. IsNumberOf self.new n bytes.now) }
-        ensures kept { Keeps self.old self.new }
-        ensures distinct { AreDistinct self.new }
-        ensures err { OnErr result (self.new ≡ self.old) }
+        ensures { Numbers self.old bytes.now result self.new }
     {
         self.room.assign(bytes)?;
         let index = match index_of(&self.texts, &self.room) {
@@ -100,10 +95,7 @@ impl Texts {
 
     // The index of these bytes, which get one if they have none. Takes memory even if they have.
     fn add(&mut self, bytes: &[u8]) -> Result<usize, AllocError>
-        ensures number { IfOk result (λ n. IsNumberOf self.new n bytes.now) }
-        ensures kept { Keeps self.old self.new }
-        ensures distinct { AreDistinct self.new }
-        ensures err { OnErr result (self.new ≡ self.old) }
+        ensures { Numbers self.old bytes.now result self.new }
     {
         let text = Text::from_slice(*self.texts.allocator(), bytes)?;
         let (index, _) = self.texts.insert_full(text)?;
@@ -152,14 +144,27 @@ fn index_of(texts: &IndexSet<Text, HashKey>, text: &Text) -> Option<usize>
 #[inline(always)]
 fn hash(secret: u64, bytes: &[u8]) -> u64 {
     let len = bytes.len();
-    let mut hash = secret ^ len as u64;
-    if len >= 8 {
-        hash = (hash ^ word_at(bytes, 0)).wrapping_mul(MULTIPLIER);
-        hash = (hash ^ word_at(bytes, len - 8)).wrapping_mul(MULTIPLIER);
+    let (first, last) = if len >= 8 {
+        (word_at(bytes, 0), word_at(bytes, len - 8))
+    } else if len >= 4 {
+        (half_at(bytes, 0), half_at(bytes, len - 4))
+    } else if len >= 1 {
+        (
+            u64::from(bytes[0]),
+            u64::from(bytes[len / 2]) << 8 | u64::from(bytes[len - 1]),
+        )
     } else {
-        for byte in bytes {
-            hash = (hash ^ u64::from(*byte)).wrapping_mul(MULTIPLIER);
-        }
-    }
-    hash >> 32
+        (0, 0)
+    };
+    let hash = (secret ^ len as u64 ^ first).wrapping_mul(MULTIPLIER);
+    (hash ^ last).wrapping_mul(MULTIPLIER) >> 32
+}
+
+// Four bytes from a place on, as one number.
+#[inline(always)]
+fn half_at(bytes: &[u8], at: usize) -> u64
+    requires { at + 4 ≤ length bytes.now }
+{
+    let half = &bytes[at..at + 4];
+    u64::from(u32::from_le_bytes([half[0], half[1], half[2], half[3]]))
 }

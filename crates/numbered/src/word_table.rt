@@ -1,9 +1,9 @@
 //! Tables of words.
 
 ghost use Rattle.std.specs.Prelude.{◌≡◌, ◌==◌, ◌≤◌, [], ℕ, List, None, Some, true, not, length};
-ghost use Rattle.std.specs.Prelude.{MatchOption, OnErr, OnOk};
+ghost use Rattle.std.specs.Prelude.{MatchOption};
 ghost use Rattle.indexmap.specs.IndexMap.{Updates};
-ghost use Rattle.numbered.specs.Tables.{entry_in, key_of, same_words, with_word, word_in};
+ghost use Rattle.numbered.specs.Tables.{SetsWord, entry_in, key_of, same_words, word_in};
 ghost use Rattle.numbered.specs.Steps.Indices.{IsAt};
 
 use crate::index_cache::IndexCache;
@@ -26,7 +26,6 @@ type Map = IndexMap<KeptKey, u64, HashKey>;
 #[derive(Drop)]
 struct Found {
     cache: IndexCache,
-    last: usize,
     secret: u64,
 }
 
@@ -75,7 +74,6 @@ impl WordTable {
             map: IndexMap::with_hasher(alloc, hash_key),
             found: Found {
                 cache: IndexCache::new(alloc),
-                last: 0,
                 secret: hash_key.build_hasher().finish(),
             },
             limit: MIN_LIMIT,
@@ -112,31 +110,38 @@ impl WordTable {
         word: u64,
     ) -> Result<(), AllocError>
         requires { length words.now ≤ 8 }
-        ensures ok { OnOk result (word_in self.new
-            ≡ with_word (word_in self.old) (key_of first second words.now) word) }
-        ensures err { OnErr result (word_in self.new ≡ word_in self.old) }
+        ensures { SetsWord self.old (key_of first second words.now) word result self.new }
     {
         match find(&self.map, &mut self.found, first, second, words) {
             Some(index) => {
                 put(&mut self.map, index, word);
                 Ok(())
             }
-            None => self.start(KeptKey::of(first, second, words), word),
+            None => self.start(first, second, words, word),
         }
     }
 
     // Sets the word of a key that has no entry.
-    #[inline(never)]
-    fn start(&mut self, key: KeptKey, word: u64) -> Result<(), AllocError>
-        requires { entry_in self.old key ≡ None }
-        ensures ok { OnOk result (word_in self.new ≡ with_word (word_in self.old) key word) }
-        ensures err { OnErr result (word_in self.new ≡ word_in self.old) }
+    #[cold]
+    fn start(
+        &mut self,
+        first: u64,
+        second: u64,
+        words: &[Word],
+        word: u64,
+    ) -> Result<(), AllocError>
+        requires few { length words.now ≤ 8 }
+        requires none { entry_in self.old (key_of first second words.now) ≡ None }
+        ensures { SetsWord self.old (key_of first second words.now) word result self.new }
     {
         if word == 0 {
             return Ok(());
         }
         make_room(&mut self.map, &mut self.limit);
-        self.map.insert(key, word)?;
+        let index = self.map.len();
+        self.map.insert(KeptKey::of(first, second, words), word)?;
+        let hash = self.found.hash(first, second, words);
+        self.found.cache.put(hash, index);
         Ok(())
     }
 }
@@ -164,27 +169,22 @@ fn find(map: &Map, found: &mut Found, first: u64, second: u64, words: &[Word]) -
         (entry_in map.now.entries (key_of first second words.now) ≡ None)
         (λ i. IsAt map.now.entries i (key_of first second words.now)) }
 {
-    if is_at(map, found.last, first, second, words) {
-        return Some(found.last);
-    }
     let hash = found.hash(first, second, words);
     let index = found.cache.get(hash);
     if is_at(map, index, first, second, words) {
-        found.last = index;
         return Some(index);
     }
     find_by_hash(map, found, &KeptKey::of(first, second, words), hash)
 }
 
-// The same in the map, if neither the entry that was used last nor the cache has it.
-#[inline(never)]
+// Where the map has a key that the cache doesn't have.
+#[cold]
 fn find_by_hash(map: &Map, found: &mut Found, key: &KeptKey, hash: u64) -> Option<usize>
     ensures { MatchOption result (entry_in map.now.entries key.now ≡ None)
         (λ i. IsAt map.now.entries i key.now) }
 {
     let (index, _, _) = map.get_full(key)?;
     found.cache.put(hash, index);
-    found.last = index;
     Some(index)
 }
 
@@ -212,13 +212,14 @@ fn put(map: &mut Map, index: usize, word: u64)
     }
 }
 
-// Leaves out the entries of 0 if there are as many as that, and doubles that number.
+// Leaves out the entries of 0 if there are as many as that, which then is four times as many as are
+// left.
 fn make_room(map: &mut Map, limit: &mut usize)
     ensures { word_in map.new.entries ≡ word_in map.old.entries }
 {
     if *limit <= map.len() {
         leave_out_zeros(map);
-        *limit = map.len().saturating_mul(2).saturating_add(MIN_LIMIT);
+        *limit = map.len().saturating_mul(4).saturating_add(MIN_LIMIT);
     }
 }
 

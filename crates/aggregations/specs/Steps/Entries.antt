@@ -1,8 +1,10 @@
 -- What a change does to the entries of one aggregation.
-use Rattle.std.specs.Prelude.{◌≡◌, false, List, [], ◌∷◌, ◌++◌, ℤ, Option}
+use Rattle.std.specs.Prelude.{◌≡◌, ◌+◌, ◌≤◌, ⊤, Bool, false, List, [], ◌∷◌, ◌++◌, ℤ, Option, Result}
+use Rattle.std.specs.Prelude.{IfOk, IsFalse, IsTrue, OnErr, OnOk}
+use Rattle.std.specs.declared.alloc.AllocError.{AllocError}
 use Rattle.aggregations.specs.Vocabulary.{AggFn, KeyPart, same_key}
 use Rattle.aggregations.specs.declared.held.Held.{Held}
-use Rattle.aggregations.specs.Table.{Aggregation, IsEntry, entry_at}
+use Rattle.aggregations.specs.Table.{Aggregation, IsEntry, count_of, entry_at}
 
 -- whatever arguments the old entry and the other are made of, the new one is made of both
 abbrev pub Joins : AggFn → (old other new : Option Held) → Type 0
@@ -29,3 +31,28 @@ TakesArgument old new key arg = Puts old new key (Notes old.function (entry_at k
 abbrev pub TakesAll : (old other new : Aggregation) → Type 0
 TakesAll old other new = (key : List KeyPart)
     → Joins old.function (entry_at key old) (entry_at key other) (entry_at key new)
+
+-- ---- what a call that changes entries returns. The function stays, whatever it returns
+
+-- one argument more for the key, or memory was refused, and nothing changed
+pub record Adds (old new : Aggregation) (key : List KeyPart) (arg : ℤ) (r : Result ⊤ AllocError)
+    : Type 0 where
+  pub function : new.function ≡ old.function
+  pub ok : OnOk r (TakesArgument old new key arg)
+  pub count : count_of new ≤ count_of old + 1
+  pub err : OnErr r (new ≡ old)
+
+-- the same, if the key's entry is found, which is returned; otherwise nothing changed
+pub record AddsIfFound (old new : Aggregation) (key : List KeyPart) (arg : ℤ)
+    (r : Result Bool AllocError) : Type 0 where
+  pub function : new.function ≡ old.function
+  pub noted : IfOk r (λ found. IsTrue found → TakesArgument old new key arg)
+  pub absent : IfOk r (λ found. IsFalse found → new ≡ old)
+  pub count : count_of new ≤ count_of old + 1
+  pub err : OnErr r (new ≡ old)
+
+-- the arguments of all entries of another aggregation too
+pub record Merges (old other new : Aggregation) (r : Result ⊤ AllocError) : Type 0 where
+  pub function : new.function ≡ old.function
+  pub ok : OnOk r (TakesAll old other new)
+  pub count : count_of new ≤ count_of old + count_of other

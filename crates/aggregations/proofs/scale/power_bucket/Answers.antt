@@ -23,20 +23,8 @@ returns-then-x-lt0-clause-only c =
     let least = c.min.ensures in
     λ b lt. below_zero c.args.x m c.top_bit.result is some c.top_bit.ensures.at_least c.top_bit.ensures.below b lt ∙ ap (λ k. b == 62 - k) (sym least)
 
-pub returns-else-x-eq0-clause-within : goal.returns-else-x-eq0-clause-within
-returns-else-x-eq0-clause-within c =
-    let x = c.ranges.x in
-    let k = c.top_bit-else-x-eq0.result in
-    let m = c.unsigned_abs-else-x-eq0.result in
-    let value = simp to_z-of_z at c.unsigned_abs-else-x-eq0.ensures.value in
-    let positive : pos 0 ≤ℤ c.args.x = search rules in
-    let bound : m < 2 ^ 63 = omega (arith, ints) in
-    let small : k < 63 = exponent_lt k 63 m c.top_bit-else-x-eq0.ensures.at_least bound in
-    let goal : 64 + k < 127 = omega arith in
-    goal
-
-pub returns-else-x-eq0-clause-only : goal.returns-else-x-eq0-clause-only
-returns-else-x-eq0-clause-only c =
+pub returns-else-x-eq0 : goal.returns-else-x-eq0
+returns-else-x-eq0 c =
     let x = c.ranges.x in
     let k = c.top_bit-else-x-eq0.result in
     let m = c.unsigned_abs-else-x-eq0.result in
@@ -45,4 +33,5 @@ returns-else-x-eq0-clause-only c =
     let bound : m < 2 ^ 63 = omega (arith, ints) in
     let is : c.args.x ≡ pos m = omega (arith, ints) in
     let small : k < 63 = exponent_lt k 63 m c.top_bit-else-x-eq0.ensures.at_least bound in
-    above_zero c.args.x m k is c.top_bit-else-x-eq0.ensures.at_least c.top_bit-else-x-eq0.ensures.below small
+    let within : 64 + k < 127 = omega arith in
+    record { within = within; only = above_zero c.args.x m k is c.top_bit-else-x-eq0.ensures.at_least c.top_bit-else-x-eq0.ensures.below small }

@@ -1,6 +1,6 @@
 use Rattle.std.proofs.lemmas.Int.{quot-rem, rem_below}
 use Rattle.std.proofs.Common.{refl}
-use Rattle.std.specs.Prelude.{ℤ, pos, negsuc, neg_ℤ, ℕ, zero, suc, ◌/◌, unsigned_abs, ◌≡◌}
+use Rattle.std.specs.Prelude.{pos, negsuc, neg_ℤ, ℕ, zero, suc, ◌/◌, unsigned_abs, ◌≡◌}
 use Rattle.d_values.proofs.laws.division.Goals as goal
 
 -- as far from zero on the other side

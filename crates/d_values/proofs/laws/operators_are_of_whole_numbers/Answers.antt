@@ -14,21 +14,12 @@ given : (refused : Bool) (n word : ℕ) → outcome refused n ≡ Ok word → n 
 given true n word h = cc
 given false n word h = cc
 
-pub returns-clause-binary : goal.returns-clause-binary
-returns-clause-binary c op t a b word sa sb h =
-    ap (number_of t) (sym (given (divides op && (b == 0)) (narrow t (operate op t.signed a b)) word h)) ∙ computed op t a b sa sb
-
-pub returns-clause-shift : goal.returns-clause-shift
-returns-clause-shift c op t a count small = shifts op t a count small
-
-pub returns-clause-opposite : goal.returns-clause-opposite
-returns-clause-opposite c t a small = opposites t a small
-
-pub returns-clause-complement : goal.returns-clause-complement
-returns-clause-complement c t a small = complements t a small
-
-pub returns-clause-order : goal.returns-clause-order
-returns-clause-order c t a b = orders t a b
-
-pub returns-clause-conversion : goal.returns-clause-conversion
-returns-clause-conversion c from to a small = converted from to a small
+pub returns : goal.returns
+returns c = record {
+  binary = λ op t a b word sa sb h. ap (number_of t) (sym (given (divides op && (b == 0)) (narrow t (operate op t.signed a b)) word h)) ∙ computed op t a b sa sb;
+  shift = shifts;
+  opposite = opposites;
+  complement = complements;
+  order = orders;
+  conversion = converted;
+}

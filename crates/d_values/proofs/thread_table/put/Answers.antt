@@ -5,7 +5,6 @@ use Rattle.indexmap.proofs.CallerLemmas.{updates-with_value_at}
 use Rattle.d_values.specs.Stores.{value_to_keep}
 use Rattle.d_values.specs.Tables.{elements_of}
 use Rattle.d_values.specs.Variables.{same_var_equiv}
-use Rattle.d_values.specs.declared.held.Held.{Held}
 use Rattle.d_values.proofs.Storing.{holds_by, key_found, on_err, on_ok, pairs_of-set_value_at, sets_by}
 use Rattle.d_values.proofs.Storing.{some_is, value_found}
 use Rattle.d_values.proofs.thread_table.put.Goals as goal

@@ -1,7 +1,7 @@
 use Rattle.std.specs.Prelude.{◌≡◌, Some}
 use Rattle.std.specs.Map.{lookup}
 use Rattle.std.proofs.Common.{sym, ap, subst, ◌∙◌}
-use Rattle.numbered.specs.Tables.{key_of, same_words}
+use Rattle.numbered.specs.Tables.{same_words}
 use Rattle.numbered.proofs.word_table.is_at.Goals as goal
 
 pub returns-in-Some : goal.returns-in-Some

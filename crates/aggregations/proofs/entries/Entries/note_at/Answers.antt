@@ -15,21 +15,21 @@ use Rattle.aggregations.specs.Values.{count_in}
 use Rattle.aggregations.proofs.IndexLemmas.{held_counted, notes_there, set_same, sum_set}
 use Rattle.aggregations.proofs.entries.Entries.note_at.Goals as goal
 
-pub returns-then-not-is_key_of-clause-absent : goal.returns-then-not-is_key_of-clause-absent
-returns-then-not-is_key_of-clause-absent c = λ _.
-    let entries = c.self.inside.map.entries in
-    let found = c.pair_mut-partial.result in
-    ap (λ es. record { function = c.self.inside.function; entries = es })
-    (set_same entries c.args.index found.0.now found.1.now c.pair_mut-partial.ensures.value)
-    ∙ c.self.view_is
-
-pub returns-then-not-is_key_of-clause-count : goal.returns-then-not-is_key_of-clause-count
-returns-then-not-is_key_of-clause-count c =
+pub returns-then-not-is_key_of : goal.returns-then-not-is_key_of
+returns-then-not-is_key_of c =
     let entries = c.self.inside.map.entries in
     let found = c.pair_mut-partial.result in
     let sums = sum_set entries c.args.index found.0.now found.1.now found.1.now c.pair_mut-partial.ensures.value in
     let was : sum_by count_in (values_of entries) ≡ sum_by count_in (values_of c.args.self.now.entries) = ap (λ a. sum_by count_in (values_of a.entries)) c.self.view_is in
-    omega arith
+    record {
+      function = search rules;
+      noted = search rules;
+      absent = λ _. ap (λ es. record { function = c.self.inside.function; entries = es })
+          (set_same entries c.args.index found.0.now found.1.now c.pair_mut-partial.ensures.value)
+          ∙ c.self.view_is;
+      count = omega arith;
+      err = search rules;
+    }
 
 pub note-requires : goal.note-requires
 note-requires c =
@@ -40,32 +40,32 @@ note-requires c =
     let one = held_counted entries c.args.index found.0.now found.1.now c.pair_mut-partial.ensures.value in
     omega arith
 
-pub returns-in_err-note-clause-count : goal.returns-in_err-note-clause-count
-returns-in_err-note-clause-count c =
+pub returns-in_err-note : goal.returns-in_err-note
+returns-in_err-note c =
     let entries = c.self.inside.map.entries in
     let found = c.pair_mut-partial.result in
     let sums = sum_set entries c.args.index found.0.now found.1.now c.note.new.self c.pair_mut-partial.ensures.value in
     let was : sum_by count_in (values_of entries) ≡ sum_by count_in (values_of c.args.self.now.entries) = ap (λ a. sum_by count_in (values_of a.entries)) c.self.view_is in
     let more = c.note.ensures.count in
-    omega arith
-
-pub returns-in_err-note-clause-err : goal.returns-in_err-note-clause-err
-returns-in_err-note-clause-err c =
-    let entries = c.self.inside.map.entries in
-    let found = c.pair_mut-partial.result in
     let same : c.note.new.self ≡ found.1.now = search rules in
-    on_err c.from_residual.result
-    (ap (λ held. record { function = c.self.inside.function; entries = set_value_at entries c.args.index held }) same
-    ∙ ap (λ es. record { function = c.self.inside.function; entries = es })
-    (set_same entries c.args.index found.0.now found.1.now c.pair_mut-partial.ensures.value)
-    ∙ c.self.view_is)
+    record {
+      function = search rules;
+      noted = search rules;
+      absent = search rules;
+      count = omega arith;
+      err = on_err c.from_residual.result
+          (ap (λ held. record { function = c.self.inside.function; entries = set_value_at entries c.args.index held }) same
+          ∙ ap (λ es. record { function = c.self.inside.function; entries = es })
+          (set_same entries c.args.index found.0.now found.1.now c.pair_mut-partial.ensures.value)
+          ∙ c.self.view_is);
+    }
   where
     on_err : {P : Type 0} (r : Result Bool AllocError) → P → OnErr r P
     on_err (Ok x) p = _
     on_err (Err e) p = p
 
-pub returns-clause-noted : goal.returns-clause-noted
-returns-clause-noted c = λ _.
+pub returns : goal.returns
+returns c =
     let m = c.self.inside.map in
     let i = c.args.index in
     let key = key_in c.args.made.texts.now c.args.made.words.now in
@@ -87,17 +87,18 @@ returns-clause-noted c = λ _.
     let old_is : entry_at key first ≡ Some held = ap (entry_at key) (sym c.self.view_is) ∙ found_is in
     let arg = c.ranges.arg in
     let takes = simp to_z-of_z at c.in_ok-note.ensures.value in
-    record {
-      here = subst (λ o. Notes first.function o c.args.arg (lookup (same_key key) (set_value_at m.entries i now))) (sym old_is)
-          (subst (λ o. Notes first.function (Some held) c.args.arg o) (sym new_is) (notes_there first.function held c.args.arg now takes));
-      others = λ q e. puts.0 q ∙ ap (λ b. if b then Some now else lookup (same_key q) m.entries) e ∙ ap (entry_at q) c.self.view_is;
-    }
-
-pub returns-clause-count : goal.returns-clause-count
-returns-clause-count c =
-    let entries = c.self.inside.map.entries in
-    let found = c.pair_mut-partial.result in
-    let sums = sum_set entries c.args.index found.0.now found.1.now c.note.new.self c.pair_mut-partial.ensures.value in
-    let was : sum_by count_in (values_of entries) ≡ sum_by count_in (values_of c.args.self.now.entries) = ap (λ a. sum_by count_in (values_of a.entries)) c.self.view_is in
+    let entries = m.entries in
+    let sums = sum_set entries i found.0.now held now c.pair_mut-partial.ensures.value in
+    let was : sum_by count_in (values_of entries) ≡ sum_by count_in (values_of first.entries) = ap (λ a. sum_by count_in (values_of a.entries)) c.self.view_is in
     let more = c.note.ensures.count in
-    omega arith
+    record {
+      function = search rules;
+      noted = λ _. record {
+        here = subst (λ o. Notes first.function o c.args.arg (lookup (same_key key) (set_value_at m.entries i now))) (sym old_is)
+            (subst (λ o. Notes first.function (Some held) c.args.arg o) (sym new_is) (notes_there first.function held c.args.arg now takes));
+        others = λ q e. puts.0 q ∙ ap (λ b. if b then Some now else lookup (same_key q) m.entries) e ∙ ap (entry_at q) c.self.view_is;
+      };
+      absent = search rules;
+      count = omega arith;
+      err = search rules;
+    }

@@ -19,27 +19,15 @@ loop-bucket-init c =
     subst (λ l. Joining f first other l first) (sym starts)
     (joining_start f c.other.inside.scale first other all refl len c.other.view_is (ap buckets (sym own) ∙ same) c.other.invariant)
 
-pub add-requires-clause-bucket : goal.add-requires-clause-bucket
-add-requires-clause-bucket c =
+pub add-requires : goal.add-requires
+add-requires c =
     let f = c.args.self.now.scale in
     let rest = c.next.new.self in
     let j = subst (λ l. Joining f c.args.self.now c.args.other.now l c.loop-bucket.self) c.in-Some.ensures.steps c.loop-bucket.invariant in
-    subst (λ g. c.in-Some.bucket.now < buckets g) (sym j.scale) (buckets_front f c.in-Some.bucket.now c.in-Some.more.now rest j.are).0
-
-pub add-requires-clause-some : goal.add-requires-clause-some
-add-requires-clause-some c =
-    let f = c.args.self.now.scale in
-    let rest = c.next.new.self in
-    let j = subst (λ l. Joining f c.args.self.now c.args.other.now l c.loop-bucket.self) c.in-Some.ensures.steps c.loop-bucket.invariant in
-    (buckets_front f c.in-Some.bucket.now c.in-Some.more.now rest j.are).1
-
-pub add-requires-clause-room : goal.add-requires-clause-room
-add-requires-clause-room c =
-    let f = c.args.self.now.scale in
-    let j = subst (λ l. Joining f c.args.self.now c.args.other.now l c.loop-bucket.self) c.in-Some.ensures.steps c.loop-bucket.invariant in
-    let room = joining_room f c.args.self.now c.args.other.now c.loop-bucket.self c.next.new.self c.in-Some.bucket.now c.in-Some.more.now j in
+    let (bucket, some) = buckets_front f c.in-Some.bucket.now c.in-Some.more.now rest j.are in
+    let room = joining_room f c.args.self.now c.args.other.now c.loop-bucket.self rest c.in-Some.bucket.now c.in-Some.more.now j in
     let few = c.requires in
-    omega arith
+    record { bucket = subst (λ g. c.in-Some.bucket.now < buckets g) (sym j.scale) bucket; some = some; room = omega arith }
 
 pub loop-bucket-preserved : goal.loop-bucket-preserved
 loop-bucket-preserved c =

@@ -12,18 +12,11 @@ sum-requires-clause-fits c =
     let fits : sum (values_of used) < 2 ^ 64 = omega arith in
     search rules
 
-pub returns-clause-value : goal.returns-clause-value
-returns-clause-value c =
-    let f = c.self.inside.scale in
-    let used = c.self.inside.used.entries in
-    let is : c.sum.result ≡ sum (values_of used) = search rules in
-    is ∙ sym (sum-used f used (buckets_kept f used c.self.invariant)) ∙ ap (λ h. sum h.counts) c.self.view_is
-
-pub returns-clause-few : goal.returns-clause-few
-returns-clause-few c =
+pub returns : goal.returns
+returns c =
     let f = c.self.inside.scale in
     let used = c.self.inside.used.entries in
     let is : c.sum.result ≡ sum (values_of used) = search rules in
     let all = sum-used f used (buckets_kept f used c.self.invariant) in
     let few = c.self.invariant.few in
-    omega arith
+    record { value = is ∙ sym all ∙ ap (λ h. sum h.counts) c.self.view_is; few = omega arith }

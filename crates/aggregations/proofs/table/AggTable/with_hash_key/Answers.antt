@@ -10,17 +10,11 @@ invariant_of-result c =
     let none : count_held c.in_ok-aggregations.aggregations.items ≡ 0 = ap count_held all ∙ count_held-without_entries c.args.functions.items in
     (omega arith, search rules)
 
-pub returns-clause-functions : goal.returns-clause-functions
-returns-clause-functions c =
+pub returns : goal.returns
+returns c =
     let all : c.in_ok-aggregations.aggregations.items ≡ map without_entries c.args.functions.items = search rules in
-    ap functions_of all ∙ functions_of-without_entries c.args.functions.items
-
-pub returns-clause-stands : goal.returns-clause-stands
-returns-clause-stands c =
-    let all : c.in_ok-aggregations.aggregations.items ≡ map without_entries c.args.functions.items = search rules in
-    subst (λ t. StandsFor t []) (sym all) (stands-without_entries c.args.functions.items)
-
-pub returns-clause-held : goal.returns-clause-held
-returns-clause-held c =
-    let all : c.in_ok-aggregations.aggregations.items ≡ map without_entries c.args.functions.items = search rules in
-    ap count_held all ∙ count_held-without_entries c.args.functions.items
+    record {
+      functions = ap functions_of all ∙ functions_of-without_entries c.args.functions.items;
+      stands = subst (λ t. StandsFor t []) (sym all) (stands-without_entries c.args.functions.items);
+      held = ap count_held all ∙ count_held-without_entries c.args.functions.items;
+    }

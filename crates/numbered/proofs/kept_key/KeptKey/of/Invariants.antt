@@ -1,4 +1,4 @@
-use Rattle.std.proofs.Common.{◌≡◌, ◌∷◌, map, take}
+use Rattle.std.proofs.Common.{◌≡◌, take}
 use Rattle.numbered.specs.Tables.{key_of}
 use Rattle.numbered.proofs.kept_key.KeptKey.of.Given as goal
 

@@ -6,12 +6,14 @@ use Rattle.numbered.proofs.texts.Texts.add.Goals as goal
 pub invariant_of-self-2 : goal.invariant_of-self-2
 invariant_of-self-2 c = distinct_numbers _ c.insert_full.ensures.unique
 
-pub returns-clause-kept : goal.returns-clause-kept
-returns-clause-kept c = record {
-  long = first_of (search rules, grind (arith, common_steps));
-  same = first_of (search rules, grind (arith, common_steps));
-  distinct = λ before. distinct_numbers _ c.insert_full.ensures.unique;
+pub returns : goal.returns
+returns c = record {
+  number = search rules;
+  kept = record {
+    long = first_of (search rules, grind (arith, common_steps));
+    same = first_of (search rules, grind (arith, common_steps));
+    distinct = λ before. distinct_numbers _ c.insert_full.ensures.unique;
+  };
+  distinct = distinct_numbers _ c.insert_full.ensures.unique;
+  err = tt;
 }
-
-pub returns-clause-distinct : goal.returns-clause-distinct
-returns-clause-distinct c = distinct_numbers _ c.insert_full.ensures.unique

@@ -1,8 +1,8 @@
-use Rattle.std.specs.Prelude.{◌≡◌, ◌<◌, ◌≤◌, ◌+◌, ◌*◌, ◌∷◌, [], List, length, take}
+use Rattle.std.specs.Prelude.{◌<◌, ◌+◌, ◌*◌, List, length, take}
 use Rattle.std.proofs.Common.{sym, ap, subst, ◌∙◌, arith}
 use Rattle.std.proofs.lemmas.List.{length-take-le, take_more_set}
 use Rattle.numbered.specs.declared.word.Word.{Word}
-use Rattle.numbered.specs.Shapes.{digit_of, shape_of}
+use Rattle.numbered.specs.Shapes.{shape_of}
 use Rattle.numbered.proofs.Shaped.{digits_more, digit_small, shape_below}
 use Rattle.numbered.proofs.tuple.Tuple.push.Goals as goal
 

@@ -3,7 +3,7 @@ use Rattle.numbered.specs.Tables.{key_of, word_in}
 use Rattle.numbered.proofs.Indices.{words_set}
 use Rattle.numbered.proofs.word_table.WordTable.set.Goals as goal
 
-pub returns-in-Some-clause-ok : goal.returns-in-Some-clause-ok
-returns-in-Some-clause-ok c =
+pub returns-in-Some : goal.returns-in-Some
+returns-in-Some c =
     let key = key_of c.args.first c.args.second c.args.words.now in
-    words_set c.args.self.now _ _ key c.args.word (ap word_in c.self.view_is) (c.put.ensures key c.in-Some.ensures).0
+    record { ok = words_set c.args.self.now _ _ key c.args.word (ap word_in c.self.view_is) (c.put.ensures key c.in-Some.ensures).0; err = tt }
