@@ -23,16 +23,14 @@ use Rattle.dif_validate.specs.declared.register.Reg.{Reg}
 use Rattle.dif_validate.specs.Objects.{Object}
 use Rattle.dif_validate.specs.Registers.{at}
 use Rattle.dif_machine.specs.declared.comparing.Comparison.{Comparison}
-use Rattle.dif_machine.specs.Frames.{Frame}
-use Rattle.dif_machine.specs.Frames.{at_index, with_value, with_comparison}
+use Rattle.dif_machine.specs.Frames.{Frame, at_index, with_value, with_comparison}
 use Rattle.dif_machine.specs.Operators.{result_of, holds}
 use Rattle.dif_machine.specs.Runs.{End, Divides, Reaches, faults, goes}
 use Rattle.d_types.specs.Storage as storage
 use Rattle.dif_machine.specs.Semantics as st
 use Rattle.dif_codegen.specs.Steps.Code.{register}
 use Rattle.dif_codegen.specs.Steps.Pieces as pieces
-use Rattle.dif_codegen.specs.Steps.Pieces.{Piece, Place, Maker, sequence, past, both, fork}
-use Rattle.dif_codegen.specs.Steps.Pieces.{choice_code}
+use Rattle.dif_codegen.specs.Steps.Pieces.{Piece, Place, Maker, past, both, fork, choice_code}
 use Rattle.dif_codegen.specs.Steps.Pieces.{bit_by, next}
 use Rattle.dif_codegen.proofs.Standing.{has_front, has_back, Stands, stands_front, stands_back}
 use Rattle.dif_codegen.proofs.Standing.{put_is}

@@ -13,7 +13,7 @@ use Rattle.d_types.specs.Held.{AreTyped, HasTypedBuiltIns, IsConsistent, Slots, 
 use Rattle.d_types.specs.Storage.{Variables}
 use Rattle.d_types.specs.Typed.{Action, Aggregate, ClauseMeant, Evaluate, Exit, Print, Trace, Typed}
 use Rattle.d_types.specs.Typed.{Typeds, agg_of, end, more, meant_of, script_meant, typed_of}
-use Rattle.d_types.specs.Typed.{typeds_of, type_of}
+use Rattle.d_types.specs.Typed.{typeds_of, type_of, types_of}
 use Rattle.d_types.specs.Scripts.{IsMeant}
 use Rattle.d_types.specs.Wholes.{ActionIs, ActionsAre, AnyIs, ClauseIs, ClausesAre, EachIs}
 use Rattle.d_types.proofs.ConsistentScripts.{script_is_consistent}
@@ -49,6 +49,10 @@ map-append g (x ∷ xs) ys = ap (λ l. g x ∷ l) (map-append g xs ys)
 
 -- ---- what stands in place of expressions
 
+pub returns_are : (all : Typeds) → map (λ x. x.returns) (compiled_objects all) ≡ types_of all
+returns_are end = refl
+returns_are (more e rest) = ap (λ l. type_of e ∷ l) (returns_are rest)
+
 module _ (slots : Slots) where
   is_object : (e : Typed) → IsConsistent slots e → FitsRegisters e → IsObjectOf slots (compiled_object e) e
   is_object e is few = record {
@@ -67,8 +71,8 @@ module _ (slots : Slots) where
 
   is_action : (a : Action) → ActionIs (IsConsistent slots) a → ActionIs FitsRegisters a → IsActionOf slots (compiled_action a) a
   is_action (Evaluate e) is few = is_object e is few
-  is_action (Trace e) is few = is_object e is few
-  is_action (Print format es) is few = (refl, are_objects es is few)
+  is_action (Trace t e) is few = (refl, is_object e is few)
+  is_action (Print format types es) is few = (refl, refl, are_objects es is few)
   is_action (Exit e) is few = is_object e is few
   is_action (Aggregate index es e) is few = (refl, are_objects es is.0 few.0, is_optional e is.1 few.1)
 

@@ -51,11 +51,13 @@ module _ (slots : Slots) (f : Firing) (fit : HasTypedBuiltIns f) where
   number_same : (e : Typed) (vars : Variables) → IsConsistent slots e → FitsRegisters e → AreTyped slots vars → number_outcome (value_of f (compiled_object e).object vars) ≡ number_outcome (eval f e vars)
   number_same e vars is few good = ap number_outcome (value_same e vars is few good)
 
-  values_same : (all : Typeds) (vars : Variables) → EachIs (IsConsistent slots) all → EachIs FitsRegisters all → AreTyped slots vars
-      → values_of_objects f (compiled_objects all) vars ≡ trees.values_of f all vars
-  values_same end vars is few good = refl
-  values_same (more e rest) vars is few good =
-      first_same e vars _ _ is.0 few.0 good (λ x late well. ap (λ o. with o (λ vs. Has ((type_of e, x) ∷ vs))) (values_same rest late is.1 few.1 well))
+  values_same : (types : List DType) (all : Typeds) (vars : Variables) → EachIs (IsConsistent slots) all → EachIs FitsRegisters all → AreTyped slots vars
+      → values_of_objects f types (compiled_objects all) vars ≡ trees.values_of f types all vars
+  values_same [] end vars is few good = refl
+  values_same [] (more e rest) vars is few good = refl
+  values_same (t ∷ types) end vars is few good = refl
+  values_same (t ∷ types) (more e rest) vars is few good =
+      first_same e vars _ _ is.0 few.0 good (λ x late well. ap (λ o. with o (λ vs. Has ((t, x) ∷ vs))) (values_same types rest late is.1 few.1 well))
 
   key_same : (all : Typeds) (vars : Variables) → EachIs (IsConsistent slots) all → EachIs FitsRegisters all → AreTyped slots vars
       → key_of_objects f (compiled_objects all) vars ≡ keys_of f all vars
@@ -75,8 +77,8 @@ module _ (slots : Slots) (f : Firing) (fit : HasTypedBuiltIns f) where
   effect_same : (a : Action) (vars : Variables) → ActionIs (IsConsistent slots) a → ActionIs FitsRegisters a → AreTyped slots vars
       → effect_by (by_objects f) (compiled_action a) vars ≡ effect_of f a vars
   effect_same (Evaluate e) vars is few good = ap (λ o. with o (λ x. Has ef.Nothing)) (value_same e vars is few good)
-  effect_same (Trace e) vars is few good = ap (λ o. with o (λ x. Has (ef.Says (trace_line (type_of e) x)))) (value_same e vars is few good)
-  effect_same (Print format all) vars is few good = ap (λ o. with o (λ values. Has (ef.Says (printf_text format values)))) (values_same all vars is few good)
+  effect_same (Trace t e) vars is few good = ap (λ o. with o (λ x. Has (ef.Says (trace_line t x)))) (value_same e vars is few good)
+  effect_same (Print format types all) vars is few good = ap (λ o. with o (λ values. Has (ef.Says (printf_text format values)))) (values_same types all vars is few good)
   effect_same (Exit e) vars is few good = ap (λ o. with o (λ word. Has (ef.Exits (word % 256)))) (number_same e vars is few good)
   effect_same (Aggregate index keys argument) vars is few good =
       ap (λ o. with o (λ key vars. with (argument_by (by_objects f) (optional_object argument) vars) (λ z. Has (ef.Adds index key z)))) (key_same keys vars is.0 few.0 good)

@@ -10,7 +10,7 @@ use Rattle.d_values.specs.Operators.{holds_of}
 use Rattle.d_values.specs.Texts.{text_cmp, joined_text}
 use Rattle.d_values.specs.Types.{UINT64}
 use Rattle.d_values.specs.Words.{narrow, operate, divides, binary_of, shift_of, order_of}
-use Rattle.d_values.specs.Words.{complement_of, opposite_of, difference_of}
+use Rattle.d_values.specs.Words.{difference_of}
 use Rattle.d_values.specs.declared.int_type.IntType.{IntType}
 use Rattle.d_values.specs.declared.int_type.DType.{DType}
 use Rattle.d_values.specs.declared.int_type.DType.TheVariants as ty
@@ -35,8 +35,7 @@ use Rattle.d_types.specs.Expressions.{at_zero, unary_of, built_in_value, assignm
 use Rattle.d_types.specs.Expressions.{update_outcome, step_outcome, works_in, word_as_type}
 use Rattle.d_types.specs.Expressions.{step_result, step_value, keys_of}
 use Rattle.d_types.specs.Held.{IsOf, HasTypedBuiltIns, Slots, AreTyped, EndsTyped, IsKnown}
-use Rattle.d_types.specs.Held.{IsConsistent}
-use Rattle.d_types.specs.Held.{AreConsistent, IsSomeInteger, TakesOperands}
+use Rattle.d_types.specs.Held.{IsConsistent, AreConsistent, IsSomeInteger, TakesOperands}
 use Rattle.d_types.specs.Needs.{need, need_of_keys, count}
 use Rattle.d_types.specs.Storage.{Variables, value_of_variable, value_in_space, var_of, set}
 use Rattle.d_types.specs.Storage.{word_of}
@@ -62,17 +61,13 @@ use Rattle.dif_machine.specs.Operators.{result_of, comparison_of, text_compariso
 use Rattle.dif_machine.specs.Runs.{goes}
 use Rattle.dif_machine.specs.Semantics as st
 use Rattle.dif_codegen.specs.Steps.Code.{register, operator_of, condition_of, shift_operator}
-use Rattle.dif_codegen.specs.Steps.Code.{masking}
-use Rattle.dif_codegen.specs.Steps.Code.{operate_on, differing, narrowing, unary_code}
-use Rattle.dif_codegen.specs.Steps.Code.{built_in_code}
-use Rattle.dif_codegen.specs.Steps.Code.{fetching}
+use Rattle.dif_codegen.specs.Steps.Code.{masking, operate_on, differing, narrowing, unary_code}
+use Rattle.dif_codegen.specs.Steps.Code.{built_in_code, fetching}
 use Rattle.dif_codegen.specs.Steps.Code.{saving, lowering, holding, step_operator, opposite}
 use Rattle.dif_codegen.specs.Steps.Code.{stepping}
 use Rattle.dif_codegen.specs.Steps.Code.{answering, measuring, joining, code_of, keys_code}
 use Rattle.dif_codegen.specs.Steps.Pieces as pieces
-use Rattle.dif_codegen.specs.Steps.Pieces.{Piece, Place, Maker, one_instr, both, choice_code}
-use Rattle.dif_codegen.specs.Steps.Pieces.{bit_by}
-use Rattle.dif_codegen.specs.Steps.Pieces.{past}
+use Rattle.dif_codegen.specs.Steps.Pieces.{Place, Maker, one_instr, both, choice_code, bit_by, past}
 use Rattle.dif_codegen.proofs.Leading.{Ready, Done, Usable, done_value, step, ready_on, same_ready}
 use Rattle.dif_codegen.proofs.Leading.{Leads, put_leads, none_leads, number_leads, text_leads}
 use Rattle.dif_codegen.proofs.Leading.{alu_leads, both_leads, both_number, both_text, choice_leads}
@@ -174,10 +169,10 @@ module _ (o : Object) (f : Firing) where
   unary_leads un.Not t r pl x s vars u lt ready e val stands =
       inverse_leads r _ s vars x (bit_leads o f r pl (Tst (register r)) Equal s vars (comparison_of x 0) (is_zero x) u ready.long e stands (tested r x s vars u.high val) (zero_holds x))
   unary_leads un.Complement t r pl x s vars u lt ready e val stands =
-      word_leads t r pl (Not (register r) (register r)) (complement_of UINT64 x) (complement_of t x) s vars u lt ready.long e (unsigned_small (2 ^ 64 - 1 - x)) (unsigned_again t (2 ^ 64 - 1 - x)) stands
+      word_leads t r pl (Not (register r) (register r)) (narrow UINT64 (2 ^ 64 - 1 - x)) (narrow t (2 ^ 64 - 1 - x)) s vars u lt ready.long e (unsigned_small (2 ^ 64 - 1 - x)) (unsigned_again t (2 ^ 64 - 1 - x)) stands
       (rw (at_is s.registers r u.high, val) refl)
   unary_leads un.Negate t r pl x s vars u lt ready e val stands =
-      word_leads t r pl (Alu Sub R0 (register r) (register r)) (narrow UINT64 (difference_of 0 x)) (opposite_of t x) s vars u lt ready.long e (unsigned_small (difference_of 0 x)) (unsigned_again t (difference_of 0 x)) stands
+      word_leads t r pl (Alu Sub R0 (register r) (register r)) (narrow UINT64 (difference_of 0 x)) (narrow t (difference_of 0 x)) s vars u lt ready.long e (unsigned_small (difference_of 0 x)) (unsigned_again t (difference_of 0 x)) stands
       (rw (ready.zero_is, at_is s.registers r u.high, val) refl)
   unary_leads un.Keep t r pl x s vars u lt ready e val stands = none_leads o f r pl.at (va.Int x) s vars ready.long e val
 

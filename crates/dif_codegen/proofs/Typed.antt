@@ -54,16 +54,14 @@ use Rattle.dif_validate.proofs.Writes.{put_long}
 use Rattle.dif_codegen.specs.Steps.Code.{register, operator_of, condition_of, shift_right}
 use Rattle.dif_codegen.specs.Steps.Code.{shift_operator}
 use Rattle.dif_codegen.specs.Steps.Code.{shifts, masking, operate_on, differing, narrowing}
-use Rattle.dif_codegen.specs.Steps.Code.{unary_code}
-use Rattle.dif_codegen.specs.Steps.Code.{built_in_code, load_from, store_to, push_of, pushing}
+use Rattle.dif_codegen.specs.Steps.Code.{unary_code, built_in_code, store_to, push_of, pushing}
 use Rattle.dif_codegen.specs.Steps.Code.{fetching}
 use Rattle.dif_codegen.specs.Steps.Code.{saving, lowering, holding, step_operator, opposite}
 use Rattle.dif_codegen.specs.Steps.Code.{stepping}
 use Rattle.dif_codegen.specs.Steps.Code.{answering, measuring, joining, code_of, keys_code}
 use Rattle.dif_codegen.specs.Steps.Pieces as pieces
-use Rattle.dif_codegen.specs.Steps.Pieces.{Piece, Place, Maker, nothing, one_instr, both, fork}
-use Rattle.dif_codegen.specs.Steps.Pieces.{choice_code, bit_by}
-use Rattle.dif_codegen.specs.Steps.Pieces.{past, next}
+use Rattle.dif_codegen.specs.Steps.Pieces.{Place, Maker, nothing, one_instr, both, fork}
+use Rattle.dif_codegen.specs.Steps.Pieces.{choice_code, bit_by, past, next}
 use Rattle.dif_codegen.proofs.Levels.{level, level_at, first_of, level_front, level_more, nonzero}
 use Rattle.dif_codegen.proofs.Levels.{write_again, fine_none, fine_one, fine_two, fine_any}
 use Rattle.dif_codegen.proofs.Simulation.{need_pos, count_fits, count_type}
@@ -214,10 +212,6 @@ module _ (o : Object) where
     built_in_makes pl bi.Probemod stands = put_makes pl [] ki.Text (Ldgs 6 d) (fine_none _ _ refl refl refl) refl refl refl refl refl
     built_in_makes pl bi.Probefunc stands = put_makes pl [] ki.Text (Ldgs 7 d) (fine_none _ _ refl refl refl) refl refl refl refl refl
     built_in_makes pl bi.Probename stands = put_makes pl [] ki.Text (Ldgs 8 d) (fine_none _ _ refl refl refl) refl refl refl refl refl
-
-    load_makes : (pl : Place) (w : Space) (slot : ℕ) (k : Kind) → Types o pl.at (level (ks ++ [])) (load_from w (record { slot = slot; kind = k }) d ∷ []) (level (ks ++ k ∷ []))
-    load_makes pl sp.Thread slot k = put_makes pl [] k _ (fine_none _ _ refl refl refl) refl refl refl refl refl
-    load_makes pl sp.Clause slot k = put_makes pl [] k _ (fine_none _ _ refl refl refl) refl refl refl refl refl
 
     store_makes : (pl : Place) (w : Space) (slot : ℕ) (k : Kind) → Types o pl.at (level (ks ++ k ∷ [])) (store_to w (record { slot = slot; kind = k }) d ∷ []) (level (ks ++ k ∷ []))
     store_makes pl sp.Thread slot k = one_types o pl.at _ _ (fine_one _ _ k d refl (has k []) refl refl) refl refl refl refl

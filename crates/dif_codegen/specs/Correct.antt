@@ -41,9 +41,9 @@ IsOptionalObjectOf slots x e = ⊥
 -- the same statement, with an object in place of each expression
 abbrev pub IsActionOf : Slots → ActionCode → Action → Type 0
 IsActionOf slots (Evaluate x) (Evaluate e) = IsObjectOf slots x e
-IsActionOf slots (Trace x) (Trace e) = IsObjectOf slots x e
-IsActionOf slots (Print format xs) (Print written es) =
-    (format ≡ written) × AreObjectsOf slots xs es
+IsActionOf slots (Trace t x) (Trace u e) = (t ≡ u) × IsObjectOf slots x e
+IsActionOf slots (Print format types xs) (Print written given es) =
+    (format ≡ written) × (types ≡ given) × AreObjectsOf slots xs es
 IsActionOf slots (Exit x) (Exit e) = IsObjectOf slots x e
 IsActionOf slots (Aggregate index xs x) (Aggregate aggregation es e) =
     (index ≡ aggregation) × AreObjectsOf slots xs es × IsOptionalObjectOf slots x e

@@ -34,12 +34,12 @@ value_of f o vars = ends_within (length o.code) f o start vars
 
 -- ---- clauses
 
-abbrev pub values_of_objects : Firing → List TypedObject → Variables
+abbrev pub values_of_objects : Firing → List DType → List TypedObject → Variables
     → Outcome (List (DType × Value))
-values_of_objects f [] vars = Has [] vars
-values_of_objects f (x ∷ rest) vars =
+values_of_objects f (t ∷ types) (x ∷ rest) vars =
     with (value_of f x.object vars)
-    (λ v vars. with (values_of_objects f rest vars) (λ vs. Has ((x.returns, v) ∷ vs)))
+    (λ v vars. with (values_of_objects f types rest vars) (λ vs. Has ((t, v) ∷ vs)))
+values_of_objects f types none vars = Has [] vars
 
 abbrev pub key_of_objects : Firing → List TypedObject → Variables → Outcome (List KeyPart)
 key_of_objects f [] vars = Has [] vars
@@ -53,7 +53,6 @@ by_objects f = record {
   value = λ x. value_of f x.object;
   values = values_of_objects f;
   key = key_of_objects f;
-  type = λ x. x.returns;
 }
 
 -- a run of the compiled clause at this index among the program's, from 1

@@ -16,8 +16,9 @@ pub record ClauseCode : Type 0 where
 
 abbrev pub action_code : Action → ActionCode
 action_code (Action.Plain x) = Evaluate x
-action_code (Action.Trace x) = Trace x
-action_code (Action.Printf format arguments) = Print format.items arguments.items
+action_code (Action.Trace x) = Trace x.returns x
+action_code (Action.Printf format arguments) =
+    Print format.items (map (λ x. x.returns) arguments.items) arguments.items
 action_code (Action.Exit x) = Exit x
 action_code (Action.Aggregate index keys argument) = Aggregate index keys.items argument
 

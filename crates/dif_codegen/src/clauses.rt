@@ -4,7 +4,7 @@ ghost use Rattle.std.specs.Prelude.{◌≡◌, IfOk, map};
 ghost use Rattle.d_types.specs.{Fitting.FitsRegisters, TypedScripts.typed_script_of};
 ghost use Rattle.d_types.specs.Held.{IsConsistent, Slots};
 ghost use Rattle.d_types.specs.Typed.{action_of, actions_of, meant_of, typed_argument, typeds_of};
-ghost use Rattle.d_types.specs.Typed.{Aggregate, Print};
+ghost use Rattle.d_types.specs.Typed.{Aggregate, Print, types_of};
 ghost use Rattle.d_types.specs.Wholes.{ActionIs, ActionsAre, ClauseIs, ClausesAre, EachIs};
 ghost use Rattle.dif_codegen.specs.{Meaning.IsProgramOf};
 ghost use Rattle.dif_codegen.specs.Programs.{action_code, clause_code};
@@ -24,8 +24,8 @@ fn compile_printf(
 ) -> Result<Action, AllocError>
     requires few { EachIs FitsRegisters (typeds_of arguments.now) }
     requires consistent { (slots : Slots) × EachIs (IsConsistent slots) (typeds_of arguments.now) }
-    ensures { IfOk result (λ a. action_code a
-        ≡ compiled_action (Print format.now (typeds_of arguments.now))) }
+    ensures { IfOk result (λ a. action_code a ≡ compiled_action
+        (Print format.now (types_of (typeds_of arguments.now)) (typeds_of arguments.now))) }
 {
     let arguments = compile_expressions(alloc, arguments)?;
     let format: Vec<Piece> = format.to_vec(alloc)?;

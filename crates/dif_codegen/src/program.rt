@@ -19,11 +19,9 @@ pub struct TypedObject {
 }
 
 impl TypedObject {
-    ghost use Rattle.std.specs.Prelude.{◌≡◌, IfOk};
-    ghost use Rattle.numbered.specs.Texts.{Keeps};
     ghost use Rattle.dif_codegen.specs.{Correct.Gives, Meaning.value_of};
-    ghost use Rattle.dif_machine.specs.Machine.{IsWithin, Knows, word_result};
-    ghost use Rattle.dif_machine.specs.Runs.{RunEnds};
+    ghost use Rattle.dif_machine.specs.{Machine.word_result};
+    ghost use Rattle.dif_machine.specs.Memories.{IsReady, RunsOver};
 
     /// Runs it for a firing, on a machine that may have served other runs. The variables keep the
     /// writes so far, even after a fault or if memory was refused.
@@ -39,18 +37,12 @@ impl TypedObject {
         machine: &mut Machine,
         memory: &mut M,
     ) -> Result<Word, MachineFault>
-        requires over { M.is_over memory.old machine.old.texts }
-        requires known { Knows firing.now machine.old.known }
+        requires { IsReady M.is_over firing.now memory.old machine.old }
         ensures meant { Gives (value_of firing.now self.now.object
             (M.holds memory.old machine.old.texts)) (word_result machine.new.texts result)
             (M.holds memory.new machine.new.texts) }
-        ensures run { RunEnds self.now.object firing.now (M.holds memory.old machine.old.texts)
-            (word_result machine.new.texts result) (M.holds memory.new machine.new.texts) }
-        ensures within { IfOk result (IsWithin machine.new.texts) }
-        ensures known { Knows firing.now machine.new.known }
-        ensures kept { Keeps machine.old.texts machine.new.texts }
-        ensures over { M.is_over memory.new machine.new.texts }
-        ensures beside { M.beside memory.new ≡ M.beside memory.old }
+        ensures run { RunsOver M.holds M.is_over M.beside self.now.object firing.now
+            memory.old machine.old result memory.new machine.new }
     {
         // That it is valid.
         let _ = self.object.difo();
@@ -109,9 +101,9 @@ impl Program {
     /// The functions of the script's aggregations, in order of first appearance.
     ///
     /// ```text
-    /// program.aggregations(); // [AggFn::Count], for `@calls = count()`
+    /// program.aggs(); // [AggFn::Count], for `@calls = count()`
     /// ```
-    pub fn aggregations(&self) -> &[AggFn]
+    pub fn aggs(&self) -> &[AggFn]
         ensures { result.now ≡ self.now.functions.items }
     {
         &self.functions

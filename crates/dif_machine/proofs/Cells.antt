@@ -6,7 +6,7 @@ use Rattle.std.specs.Cmp.{signed_Decides}
 use Rattle.std.specs.Cmp.Derive.{both_true}
 use Rattle.std.specs.List.{All, position_or_len}
 use Rattle.std.proofs.lemmas.Bool.{and_parts, cond-true, cond-false, cond_both, eqb-false, false_from_ne_true}
-use Rattle.std.proofs.lemmas.Bool.Decides.{Decides-eqb, Decides-ltb, not_from_Decides}
+use Rattle.std.proofs.lemmas.Bool.Decides.{Decides-ltb, not_from_Decides}
 use Rattle.std.proofs.lemmas.Int.{of_z-to_z}
 use Rattle.std.proofs.lemmas.List.{length-map}
 use Rattle.std.proofs.lemmas.List.Sums.{position_or_len_is, passes_at_first}
@@ -37,6 +37,13 @@ abbrev tail_of : List ℕ → List ℕ
 tail_of [] = []
 tail_of (n ∷ ns) = ns
 
+one_variable : (m n : ℕ) (k l : Kind) → variable_number (record { slot = m; kind = k }) ≡ variable_number (record { slot = n; kind = l })
+    → ◌≡◌ {A = Var} (record { slot = m; kind = k }) (record { slot = n; kind = l })
+one_variable m n kind.Number kind.Number e = let s : m ≡ n = omega arith in ap (λ i. record { slot = i; kind = kind.Number }) s
+one_variable m n kind.Number kind.Text e = absurd (omega arith)
+one_variable m n kind.Text kind.Number e = absurd (omega arith)
+one_variable m n kind.Text kind.Text e = let s : m ≡ n = omega arith in ap (λ i. record { slot = i; kind = kind.Text }) s
+
 pub keys_same : (t u : ℕ) (x y : Var) (a b : List Word) → length a ≤ 8 → cell_key t x a ≡ cell_key u y b → (x ≡ y) × (a ≡ b)
 keys_same t u x y a b few e =
     let bits : map bits_of a ≡ map bits_of b = ap (λ l. tail_of (tail_of l)) e in
@@ -46,7 +53,7 @@ keys_same t u x y a b few e =
     let second = shape_below b 8 (omega (arith, few, long)) in
     let vars : variable_number x ≡ variable_number y = omega (arith, cells, first, second) in
     let shapes : shape_of a ≡ shape_of b = omega (arith, cells, first, second) in
-    ((same_var_decides x y).0 ((Decides-eqb (variable_number x) (variable_number y)).1 vars), (digits_same 1 1 a b bits shapes).1)
+    (one_variable x.slot y.slot x.kind y.kind vars, (digits_same 1 1 a b bits shapes).1)
 
 pub key_is : (thread : ℕ) (x : Var) (key : List Word) (cell : ℕ) (words : List Word) → cell ≡ cell_of x key → words ≡ key → key_of thread cell words ≡ cell_key thread x key
 key_is thread x key cell words e f = ap (λ n. key_of thread n words) e ∙ ap (key_of thread (cell_of x key)) f

@@ -1,14 +1,16 @@
 -- What is found of a firing's texts.
-use Rattle.std.specs.Prelude.{◌≡◌, ◌<◌, ◌≤◌, ◌-◌, ℕ, zero, suc, List, [], ◌∷◌, length, map, Option, Some, option_map, slice_get, slice_index_or, slice_set}
+use Rattle.std.specs.Prelude.{◌≡◌, ◌<◌, ◌≤◌, ◌-◌, ℕ, zero, suc, List, [], ◌∷◌, length, map, IfSome, Option, Some, option_map, slice_get, slice_index_or, slice_set}
 use Rattle.std.proofs.Common.{refl, sym, ap, subst, ◌∙◌, arith}
 use Rattle.std.proofs.Props.{props}
 use Rattle.std.proofs.lemmas.List.{map-set}
+use Rattle.std.proofs.lemmas.List.Elements.{All-set}
 use Rattle.std.proofs.lemmas.Option.{same_Some, slice_get-map}
 use Rattle.numbered.specs.Texts.{Keeps, IsNumberOf, text_at}
 use Rattle.dif_machine.specs.Vocabulary.{Firing, Int, Text}
-use Rattle.dif_machine.specs.Machine.{AreNumbers, Knows, found_of, knows_nothing, texts_of}
+use Rattle.dif_machine.specs.Machine.{Knows, found_of, knows_nothing, texts_of}
 use Rattle.dif_machine.specs.Sources.{built_ins}
-use Rattle.dif_machine.proofs.Holding.{found_kept, number_text}
+use Rattle.dif_machine.specs.Steps.Found.{AreFound}
+use Rattle.dif_machine.proofs.Holding.{found_kept, number_text, number_within, numbers_kept}
 
 text_mapped : (texts : List (List ℕ)) (n : ℕ) → n < length texts → slice_index_or (map Text texts) n (Int 0) ≡ Text (text_at texts n)
 text_mapped [] n h = absurd (omega (arith, h))
@@ -30,14 +32,16 @@ one_more P (x ∷ found) zero bytes each one (suc k) b e = each (suc k) b e
 one_more P (x ∷ found) (suc i) bytes each one zero b e = each 0 b e
 one_more P (x ∷ found) (suc i) bytes each one (suc k) b e = one_more (λ k. P (suc k)) found i bytes (λ k b. each (suc k) b) one k b e
 
-module _ (f : Firing) (old new : List (List ℕ)) (kept : Keeps old new) (numbers : List (Option ℕ)) (are : AreNumbers old numbers) (known : Knows f (found_of old numbers)) where
-  pub known_still : Knows f (found_of new numbers)
-  known_still = subst (Knows f) (sym (found_kept old new kept numbers are)) known
+module _ (f : Firing) (old new : List (List ℕ)) (kept : Keeps old new) (numbers : List (Option ℕ)) (found : AreFound f old numbers) where
+  pub found_still : AreFound f new numbers
+  found_still = record { known = subst (Knows f) (sym (found_kept old new kept numbers found.numbers)) found.known; numbers = numbers_kept old new kept numbers found.numbers }
 
-  pub known_more : (k n : ℕ) (bytes : List ℕ) → text_at (texts_of f) k ≡ bytes → IsNumberOf new n bytes → Knows f (found_of new (slice_set numbers k (Some n)))
-  known_more k n bytes is number =
-      subst (Knows f) (sym (map-set (option_map (text_at new)) numbers k (Some n)))
-      (one_more (λ k b. text_at (texts_of f) k ≡ b) (found_of new numbers) k (text_at new n) known_still (is ∙ sym (number_text new n bytes number)))
+  pub found_more : (k n : ℕ) (bytes : List ℕ) → text_at (texts_of f) k ≡ bytes → IsNumberOf new n bytes → AreFound f new (slice_set numbers k (Some n))
+  found_more k n bytes is number = record {
+    known = subst (Knows f) (sym (map-set (option_map (text_at new)) numbers k (Some n)))
+        (one_more (λ k b. text_at (texts_of f) k ≡ b) (found_of new numbers) k (text_at new n) found_still.known (is ∙ sym (number_text new n bytes number)));
+    numbers = All-set (λ found. IfSome found (λ n. n < length new)) numbers k _ (number_within new n bytes number) found_still.numbers;
+  }
 
 pub known_there : (f : Firing) (texts : List (List ℕ)) (numbers : List (Option ℕ)) → Knows f (found_of texts numbers) → (k n : ℕ) → slice_get numbers k ≡ Some (Some n) → text_at (texts_of f) k ≡ text_at texts n
 known_there f texts numbers known k n there =

@@ -1,14 +1,19 @@
 -- Runs of objects that load one value and return it.
-use Rattle.std.specs.Prelude.{◌≡◌, ℕ, List, Some, slice_get}
-use Rattle.std.proofs.Common.{sym, ap, subst, ◌∙◌}
+use Rattle.std.specs.Prelude.{◌≡◌, ℕ, List, [], ◌∷◌, Some, Result, Ok, Err, IsErrAnd, slice_get}
+use Rattle.std.proofs.Common.{refl, sym, ap, subst, ◌∙◌}
+use Rattle.numbered.specs.Texts.{Keeps}
 use Rattle.numbered.specs.declared.word.Word.{Word}
-use Rattle.dif_machine.specs.Vocabulary.{Firing, Instr, Ldga, Ret, Object, Value, Int, Variables}
-use Rattle.dif_machine.specs.Frames.{Frame, start, with_value}
-use Rattle.dif_machine.specs.Machine.{IsWordOf, value_of}
-use Rattle.dif_machine.specs.Runs.{Returns, ends, goes, Runs}
-use Rattle.dif_machine.specs.Semantics.{Goes, on, act, step_of}
-use Rattle.dif_machine.specs.Sources.{argument_of}
+use Rattle.dif_validate.specs.Loads.{IsElement}
+use Rattle.dif_machine.specs.Vocabulary.{Firing, Flushts, Instr, Ldga, Ldgs, Ldtaa, MachineFault, Memory, Name, Object, Pushtr, Ret, Value, Int, Text, Var, Variables}
+use Rattle.dif_machine.specs.Frames.{Frame, start, with_tuple, with_value}
+use Rattle.dif_machine.specs.Machine.{IsWithin, IsWordOf, Knows, Seen, value_of}
+use Rattle.dif_machine.specs.Memories.{IsReady, RunsOver}
+use Rattle.dif_machine.specs.Runs.{Returns, RunEnds, ends, goes, Runs}
+use Rattle.dif_machine.specs.Semantics.{Goes, on, act, puts, step_of}
+use Rattle.dif_machine.specs.Sources.{argument_of, built_ins, own_value}
 use Rattle.dif_validate.specs.declared.register.Reg.TheVariants.{R1}
+use Rattle.dif_machine.proofs.Arriving.{refused_first}
+use Rattle.dif_machine.proofs.Executing.{IsStable}
 
 -- the step of an instruction that is known
 step_is : (o : Object) (f : Firing) (s : Frame) (i : Instr) (vars : Variables) → slice_get o.code s.pc ≡ Some i → step_of o f s vars ≡ act i o f s vars
@@ -33,3 +38,45 @@ loads_argument o f i n vars first second third e =
 pub loads_word : (o : Object) (f : Firing) (texts : List (List ℕ)) (w : Word) (vars : Variables) (i : Instr) (value : Value) → slice_get o.code 0 ≡ Some i → slice_get o.code 1 ≡ Some (Ret R1) → act i o f start vars ≡ Goes (with_value start R1 value) vars → IsWordOf texts w value
     → Runs o f vars (Returns (value_of texts w) vars)
 loads_word o f texts w vars i value first second acts is = subst (λ v. Runs o f vars (Returns v vars)) (sym is.is) (loads o f i value vars first second acts)
+
+-- a text of the firing is the key of an element, which is loaded
+pub loads_element : (o : Object) (f : Firing) (x : Var) (v : ℕ) (bytes : List ℕ) (vars : Variables) → IsElement o x v → slice_get (built_ins f) v ≡ Some (Text bytes)
+    → Runs o f vars (Returns (own_value vars x (Name bytes ∷ [])) vars)
+loads_element o f x v bytes vars e there =
+    let held = own_value vars x (Name bytes ∷ []) in
+    let text = with_value start R1 (Text bytes) in
+    let key = with_tuple text (Name bytes ∷ []) in
+    let found = with_value key R1 held in
+    let left = with_tuple found [] in
+    goes text vars (step_is o f start (Ldgs v R1) vars e.first ∙ ap (λ b. on b (λ value. puts start R1 value vars)) there)
+    (goes key vars (step_is o f text (Pushtr R1) vars e.second)
+    (goes found vars (step_is o f key (Ldtaa x R1) vars e.third)
+    (goes left vars (step_is o f found Flushts vars e.fourth)
+    (ends held vars (step_is o f left (Ret R1) vars e.fifth)))))
+
+-- what loading leaves: texts may be more, and the memory holds what it held, and has what it had
+-- beside
+pub record Leaves {M : Type 0} (holds : M → List (List ℕ) → Variables) (is_over : M → List (List ℕ) → Type 0) (others : M → List ℕ → ℕ) (f : Firing) (memory : M) (m : Seen) (left : M) (n : Seen) : Type 0 where
+  pub kept : Keeps m.texts n.texts
+  pub ready : IsReady is_over f left n
+  pub same : holds left n.texts ≡ holds memory m.texts
+  pub beside : others left ≡ others memory
+
+module _ {M : Type 0} (holds : M → List (List ℕ) → Variables) (is_over : M → List (List ℕ) → Type 0) (others : M → List ℕ → ℕ) (o : Object) (f : Firing) (memory : M) (m : Seen) where
+  -- memory wasn't asked
+  pub unasked : IsStable holds is_over → (n : Seen) → is_over memory m.texts → Keeps m.texts n.texts → Knows f n.known → Leaves holds is_over others f memory m memory n
+  unasked stable n over kept known =
+      let s = stable memory m.texts n.texts over kept in
+      record { kept = kept; ready = record { known = known; over = s.0 }; same = s.1; beside = refl }
+
+  -- there was no room
+  pub refused : (left : M) (n : Seen) (r : Result Word MachineFault) → Leaves holds is_over others f memory m left n → IsErrAnd r (λ e. e ≡ Memory) → RunsOver holds is_over others o f memory m r left n
+  refused left n (Ok w) l e = absurd e
+  refused left n (Err fault) l e =
+      let ends = subst (RunEnds o f (holds memory m.texts) (Err fault)) (sym l.same) (refused_first o f (holds memory m.texts) (Err fault) e) in
+      record { ends = ends; within = tt; kept = l.kept; ready = l.ready; beside = l.beside }
+
+  pub returned : (left : M) (n : Seen) (w : Word) → Leaves holds is_over others f memory m left n → IsWithin n.texts w → Runs o f (holds memory m.texts) (Returns (value_of n.texts w) (holds memory m.texts)) → RunsOver holds is_over others o f memory m (Ok w) left n
+  returned left n w l within run =
+      let ends = subst (RunEnds o f (holds memory m.texts) (Ok (value_of n.texts w))) (sym l.same) run in
+      record { ends = ends; within = within; kept = l.kept; ready = l.ready; beside = l.beside }

@@ -10,5 +10,6 @@ pub mod CellLaws
 pub mod Known
 pub mod Semantics
 pub mod Runs
+pub mod Memories
 pub mod Changes
 pub mod Steps

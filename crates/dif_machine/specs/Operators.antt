@@ -1,11 +1,12 @@
 -- What instructions make of integers, of texts and of the tuple.
 -- Source: Cantrill, Shapiro and Leventhal, "Dynamic Instrumentation of Production Systems" (USENIX
 -- 2004), on DIF.
-use Rattle.std.specs.Prelude.{ℕ, Bool, List, [], ◌∷◌, length, Option, Some, None, Result, Ok}
+use Rattle.std.specs.Prelude.{ℕ, ◌-◌, ◌^◌, Bool, List, [], ◌∷◌, length, Option, Some, None}
+use Rattle.std.specs.Prelude.{Result, Ok}
 use Rattle.d_values.specs.Operators.{holds_of}
 use Rattle.d_values.specs.Texts.{text_cmp, joined_text}
 use Rattle.d_values.specs.Types.{INT64, UINT64}
-use Rattle.d_values.specs.Words.{binary_of, shift_of, complement_of, order_of}
+use Rattle.d_values.specs.Words.{binary_of, narrow, shift_of, order_of}
 use Rattle.dif_machine.specs.Vocabulary.{Comparison, Condition, Equal, NotEqual, Greater}
 use Rattle.dif_machine.specs.Vocabulary.{GreaterEqual, Less, LessEqual, Above, AboveEqual, Below}
 use Rattle.dif_machine.specs.Vocabulary.{BelowEqual, Function, Strlen, Strjoin, KeyPart, Name}
@@ -33,7 +34,7 @@ result_of Urem a b = binary_of Remainder UINT64 a b
 
 -- all bits turned
 abbrev pub complement : ℕ → ℕ
-complement a = complement_of UINT64 a
+complement a = narrow UINT64 (2 ^ 64 - 1 - a)
 
 -- how two integers compare
 abbrev pub comparison_of : ℕ → ℕ → Comparison

@@ -2,3 +2,4 @@
 -- definitions.
 pub mod Semantics
 pub mod Instructions
+pub mod Found

@@ -1,9 +1,10 @@
 //! Built-in variables.
 
-ghost use Rattle.std.specs.Prelude.{◌≡◌, ◌≤◌, ◌<◌, ◌-◌, IfOk, length, slice_index_or};
+ghost use Rattle.std.specs.Prelude.{◌≡◌, ◌≤◌, ◌<◌, ◌-◌, IfOk, slice_index_or};
 ghost use Rattle.numbered.specs.Texts.{Keeps, text_at};
-ghost use Rattle.dif_machine.specs.Machine.{AreNumbers, IsWordOf, Knows, found_of, texts_of};
+ghost use Rattle.dif_machine.specs.Machine.{IsWordOf, texts_of};
 ghost use Rattle.dif_machine.specs.Sources.{argument_of, built_ins};
+ghost use Rattle.dif_machine.specs.Steps.Found.{AreFound, FindsText};
 ghost use Rattle.dif_machine.specs.Vocabulary.{Value};
 
 use firings::Firing;
@@ -22,11 +23,9 @@ pub(crate) fn built_in(
     v: u8,
 ) -> Result<Word, AllocError>
     requires there { v < 9 }
-    requires known { Knows firing.now (found_of texts.old numbers.old) }
-    requires numbers { AreNumbers texts.old numbers.old }
+    requires found { AreFound firing.now texts.old numbers.old }
     ensures kept { Keeps texts.old texts.new }
-    ensures known { Knows firing.now (found_of texts.new numbers.new) }
-    ensures numbers { AreNumbers texts.new numbers.new }
+    ensures found { AreFound firing.now texts.new numbers.new }
     ensures word { IfOk result (λ word. IsWordOf texts.new word
         (slice_index_or (built_ins firing.now) v (Value.Int 0))) }
 {
@@ -35,10 +34,7 @@ pub(crate) fn built_in(
         1 => Ok(Word::Int(i64::from(firing.cpu).cast_unsigned())),
         2 => Ok(Word::Int(i64::from(firing.pid).cast_unsigned())),
         3 => Ok(Word::Int(i64::from(firing.thread).cast_unsigned())),
-        _ => {
-            let number = text_number(texts, numbers, firing, v)?;
-            Ok(Word::Text(number))
-        }
+        _ => Ok(Word::Text(text_number(texts, numbers, firing, v)?)),
     }
 }
 
@@ -51,14 +47,8 @@ fn text_number(
     v: u8,
 ) -> Result<u64, AllocError>
     requires text { (4 ≤ v) × (v < 9) }
-    requires known { Knows firing.now (found_of texts.old numbers.old) }
-    requires numbers { AreNumbers texts.old numbers.old }
-    ensures kept { Keeps texts.old texts.new }
-    ensures known { Knows firing.now (found_of texts.new numbers.new) }
-    ensures numbers { AreNumbers texts.new numbers.new }
-    ensures number { IfOk result
-        (λ n. text_at (texts_of firing.now) (v - 4) ≡ text_at texts.new n) }
-    ensures within { IfOk result (λ n. n < length texts.new) }
+    requires found { AreFound firing.now texts.old numbers.old }
+    ensures { FindsText firing.now v texts.old result texts.new numbers.new }
 {
     match numbers[v as usize - 4] {
         Some(number) => Ok(number),
@@ -70,14 +60,8 @@ fn text_number(
 #[inline(never)]
 fn find(texts: &mut Texts, numbers: &mut Numbers, firing: &Firing, v: u8) -> Result<u64, AllocError>
     requires text { (4 ≤ v) × (v < 9) }
-    requires known { Knows firing.now (found_of texts.old numbers.old) }
-    requires numbers { AreNumbers texts.old numbers.old }
-    ensures kept { Keeps texts.old texts.new }
-    ensures known { Knows firing.now (found_of texts.new numbers.new) }
-    ensures numbers { AreNumbers texts.new numbers.new }
-    ensures number { IfOk result
-        (λ n. text_at (texts_of firing.now) (v - 4) ≡ text_at texts.new n) }
-    ensures within { IfOk result (λ n. n < length texts.new) }
+    requires found { AreFound firing.now texts.old numbers.old }
+    ensures { FindsText firing.now v texts.old result texts.new numbers.new }
 {
     let number = texts.number(text(firing, v))?;
     numbers[v as usize - 4] = Some(number);

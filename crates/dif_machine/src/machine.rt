@@ -1,14 +1,16 @@
 //! What changes from step to step, but for the variables.
 
 ghost use Rattle.std.specs.Prelude.{◌≡◌, ◌≢◌, ◌<◌, ◌++◌, ◌∷◌, [], ℕ, List, length};
-ghost use Rattle.std.specs.Prelude.{Some, None, IfOk, OnErr, OnOk, slice_index_or};
+ghost use Rattle.std.specs.Prelude.{Some, None, IfOk, slice_index_or};
 ghost use Rattle.numbered.specs.Texts.{Keeps, text_at};
 ghost use Rattle.d_values.specs.{Keys.part_of, Texts.joined_text};
 ghost use Rattle.dif_machine.specs.Vocabulary.{at, kind_of, Value};
-ghost use Rattle.dif_machine.specs.{Operators.call_of, Sources.built_ins};
+ghost use Rattle.dif_machine.specs.{Operators.call_of, Sources.built_ins, Sources.local_in};
+ghost use Rattle.dif_machine.specs.{Sources.own_value};
 ghost use Rattle.dif_machine.specs.Frames.{start, with_known, with_parts, with_register};
 ghost use Rattle.dif_machine.specs.Machine.{IsContentWithin, IsWithin, IsWordOf, Knows, content_of};
 ghost use Rattle.dif_machine.specs.Machine.{key_in, knows_nothing, value_of};
+ghost use Rattle.dif_machine.specs.Memories.{LoadsWord, StoresWord};
 ghost use Rattle.dif_machine.specs.Steps.Instructions.{Grows, held_in, kind_in, set_in, with_frame};
 
 use crate::built_in::{Numbers, built_in};
@@ -140,9 +142,21 @@ impl Machine {
         requires text { (n : ℕ) → at self.now.frame.registers a ≢ Some (Value.Int n) }
         ensures { at self.now.frame.registers a ≡ Some (Value.Text result.now) }
     {
+        self.texts.text(self.text_number(a))
+    }
+
+    /// The number of the text that a register holds.
+    #[inline(always)]
+    pub(crate) fn text_number(&self, a: Reg) -> u64
+        requires set { at self.now.frame.registers a ≢ None }
+        requires text { (n : ℕ) → at self.now.frame.registers a ≢ Some (Value.Int n) }
+        ensures is { at self.now.frame.registers a
+            ≡ Some (Value.Text (text_at self.now.texts result)) }
+        ensures within { result < length self.now.texts }
+    {
         match self.word(a) {
             Word::Int(_) => unreachable!(),
-            Word::Text(number) => self.texts.text(number),
+            Word::Text(number) => number,
         }
     }
 
@@ -261,17 +275,50 @@ impl Machine {
     ) -> Result<Word, AllocError>
         requires { M.is_over memory.old self.old.texts }
         ensures grows { Grows self.old self.new }
-        ensures over { M.is_over memory.new self.new.texts }
-        ensures same { M.holds memory.new self.new.texts ≡ M.holds memory.old self.old.texts }
-        ensures beside { M.beside memory.new ≡ M.beside memory.old }
-        ensures word { IfOk result (λ word. IsWordOf self.new.texts word
-            (held_in (M.holds memory.old self.old.texts) variable self.old.frame.tuple)) }
+        ensures loads { LoadsWord M.holds M.is_over M.beside memory.old self.old.texts
+            memory.new self.new.texts result
+            (held_in (M.holds memory.old self.old.texts) variable self.old.frame.tuple) }
     {
         match variable {
             Variable::Local(x) => memory.load_local(&mut self.texts, x),
             Variable::Scalar(x) => memory.load_own(&mut self.texts, x, &Tuple::new()),
             Variable::Element(x) => memory.load_own(&mut self.texts, x, &self.tuple),
         }
+    }
+
+    /// The word of what a variable of the clause holds.
+    #[inline(always)]
+    pub(crate) fn load_local<M: Memory>(
+        &mut self,
+        memory: &mut M,
+        x: Var,
+    ) -> Result<Word, AllocError>
+        requires { M.is_over memory.old self.old.texts }
+        ensures grows { Grows self.old self.new }
+        ensures loads { LoadsWord M.holds M.is_over M.beside memory.old self.old.texts
+            memory.new self.new.texts result (local_in (M.holds memory.old self.old.texts) x) }
+    {
+        memory.load_local(&mut self.texts, x)
+    }
+
+    /// The word of what a variable of the thread holds at one word.
+    #[inline(always)]
+    pub(crate) fn load_at<M: Memory>(
+        &mut self,
+        memory: &mut M,
+        x: Var,
+        key: Word,
+    ) -> Result<Word, AllocError>
+        requires over { M.is_over memory.old self.old.texts }
+        requires within { IsWithin self.old.texts key }
+        ensures known { self.new.known ≡ self.old.known }
+        ensures loads { LoadsWord M.holds M.is_over M.beside memory.old self.old.texts
+            memory.new self.new.texts result
+            (own_value (M.holds memory.old self.old.texts) x (key_in self.old.texts (key ∷ []))) }
+    {
+        self.tuple.clear();
+        self.tuple.push(key);
+        memory.load_own(&mut self.texts, x, &self.tuple)
     }
 
     /// Stores a word in a variable.
@@ -285,13 +332,9 @@ impl Machine {
         requires over { M.is_over memory.old self.now.texts }
         requires within { IsWithin self.now.texts word }
         requires kind { kind_of (value_of self.now.texts word) ≡ kind_in variable }
-        ensures over { M.is_over memory.new self.now.texts }
-        ensures beside { M.beside memory.new ≡ M.beside memory.old }
-        ensures ok { OnOk result (M.holds memory.new self.now.texts
-            ≡ set_in (M.holds memory.old self.now.texts) variable self.now.frame.tuple
+        ensures { StoresWord M.holds M.is_over M.beside memory.old self.now.texts memory.new result
+            (set_in (M.holds memory.old self.now.texts) variable self.now.frame.tuple
             (value_of self.now.texts word)) }
-        ensures err { OnErr result (M.holds memory.new self.now.texts
-            ≡ M.holds memory.old self.now.texts) }
     {
         match variable {
             Variable::Local(x) => memory.store_local(&self.texts, x, word),
@@ -337,6 +380,7 @@ fn join(alloc: Global, texts: &mut Texts, a: u64, b: u64) -> Result<Word, AllocE
 }
 
 /// The word of a text.
+#[inline(always)]
 pub(crate) fn text_word(texts: &mut Texts, bytes: &[u8]) -> Result<Word, AllocError>
     ensures kept { Keeps texts.old texts.new }
     ensures word { IfOk result (λ word. IsWordOf texts.new word (Value.Text bytes.now)) }

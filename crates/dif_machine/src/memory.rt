@@ -1,9 +1,10 @@
 //! Where variables are.
 
-ghost use Rattle.std.specs.Prelude.{◌≡◌, IfOk, OnErr, OnOk};
+ghost use Rattle.std.specs.Prelude.{◌≡◌};
 ghost use Rattle.std.specs.List.{All};
-ghost use Rattle.numbered.specs.Texts.{AreDistinct, Keeps};
-ghost use Rattle.dif_machine.specs.Machine.{IsWithin, IsWordOf, key_in, value_of};
+ghost use Rattle.numbered.specs.Texts.{AreDistinct};
+ghost use Rattle.dif_machine.specs.Machine.{IsWithin, key_in, value_of};
+ghost use Rattle.dif_machine.specs.Memories.{LoadsWord, StoresWord};
 ghost use Rattle.dif_machine.specs.Sources.{local_in, own_value};
 ghost use Rattle.dif_machine.specs.Vocabulary.{kind_of, set_local, set_own};
 
@@ -28,38 +29,25 @@ pub trait Memory {
 
     /// The word of what a variable of the clause holds.
     fn load_local(&mut self, texts: &mut Texts, x: Var) -> Result<Word, AllocError>
-        requires over { is_over self.old texts.old }
-        requires distinct { AreDistinct texts.old }
-        ensures kept { Keeps texts.old texts.new }
-        ensures over { is_over self.new texts.new }
-        ensures same { holds self.new texts.new ≡ holds self.old texts.old }
-        ensures word { IfOk result (λ word. IsWordOf texts.new word
-            (local_in (holds self.old texts.old) x)) }
-        ensures beside { beside self.new ≡ beside self.old };
+        requires { is_over self.old texts.old }
+        ensures { LoadsWord holds is_over beside self.old texts.old self.new texts.new result
+            (local_in (holds self.old texts.old) x) };
 
     /// Gives a variable of the clause a value of its kind.
     fn store_local(&mut self, texts: &Texts, x: Var, word: Word) -> Result<(), AllocError>
         requires over { is_over self.old texts.now }
-        requires distinct { AreDistinct texts.now }
         requires within { IsWithin texts.now word }
         requires kind { kind_of (value_of texts.now word) ≡ x.kind }
-        ensures over { is_over self.new texts.now }
-        ensures ok { OnOk result (holds self.new texts.now
-            ≡ set_local (holds self.old texts.now) x (value_of texts.now word)) }
-        ensures err { OnErr result (holds self.new texts.now ≡ holds self.old texts.now) }
-        ensures beside { beside self.new ≡ beside self.old };
+        ensures { StoresWord holds is_over beside self.old texts.now self.new result
+            (set_local (holds self.old texts.now) x (value_of texts.now word)) };
 
     /// The word of what a variable of the thread holds at a key, which is empty for a scalar.
     fn load_own(&mut self, texts: &mut Texts, x: Var, key: &Tuple) -> Result<Word, AllocError>
         requires over { is_over self.old texts.old }
         requires distinct { AreDistinct texts.old }
         requires within { All (IsWithin texts.old) key.now }
-        ensures kept { Keeps texts.old texts.new }
-        ensures over { is_over self.new texts.new }
-        ensures same { holds self.new texts.new ≡ holds self.old texts.old }
-        ensures word { IfOk result (λ word. IsWordOf texts.new word
-            (own_value (holds self.old texts.old) x (key_in texts.old key.now))) }
-        ensures beside { beside self.new ≡ beside self.old };
+        ensures { LoadsWord holds is_over beside self.old texts.old self.new texts.new result
+            (own_value (holds self.old texts.old) x (key_in texts.old key.now)) };
 
     /// Gives a variable of the thread a value of its kind, at a key.
     fn store_own(
@@ -74,12 +62,9 @@ pub trait Memory {
         requires keyed { All (IsWithin texts.now) key.now }
         requires within { IsWithin texts.now word }
         requires kind { kind_of (value_of texts.now word) ≡ x.kind }
-        ensures over { is_over self.new texts.now }
-        ensures ok { OnOk result (holds self.new texts.now
-            ≡ set_own (holds self.old texts.now) x (key_in texts.now key.now)
-            (value_of texts.now word)) }
-        ensures err { OnErr result (holds self.new texts.now ≡ holds self.old texts.now) }
-        ensures beside { beside self.new ≡ beside self.old };
+        ensures { StoresWord holds is_over beside self.old texts.now self.new result
+            (set_own (holds self.old texts.now) x (key_in texts.now key.now)
+            (value_of texts.now word)) };
 
     /// More texts with numbers change nothing.
     ghost stays: { (m : Self) (old new : List (List ℕ)) → is_over m old → Keeps old new

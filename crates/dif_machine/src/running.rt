@@ -1,9 +1,7 @@
 //! Whole runs.
 
-ghost use Rattle.std.specs.Prelude.{◌≡◌, IfOk};
-ghost use Rattle.numbered.specs.Texts.{Keeps};
 ghost use Rattle.dif_machine.specs.Vocabulary.{IsValid, object_of, variables};
-ghost use Rattle.dif_machine.specs.Machine.{IsWithin, Knows, word_result};
+ghost use Rattle.dif_machine.specs.Memories.{IsReady, RunsOver};
 ghost use Rattle.dif_machine.specs.Runs.{RunEnds};
 
 use crate::built_in::argument;
@@ -30,16 +28,9 @@ fn run_to_end<M: Memory>(
     memory: &mut M,
 ) -> Result<Word, MachineFault>
     requires valid { IsValid (object_of difo.now) }
-    requires known { Knows firing.now machine.old.known }
-    requires over { M.is_over memory.old machine.old.texts }
-    ensures ends { RunEnds (object_of difo.now) firing.now
-        (M.holds memory.old machine.old.texts) (word_result machine.new.texts result)
-        (M.holds memory.new machine.new.texts) }
-    ensures within { IfOk result (IsWithin machine.new.texts) }
-    ensures kept { Keeps machine.old.texts machine.new.texts }
-    ensures known { Knows firing.now machine.new.known }
-    ensures over { M.is_over memory.new machine.new.texts }
-    ensures beside { M.beside memory.new ≡ M.beside memory.old }
+    requires ready { IsReady M.is_over firing.now memory.old machine.old }
+    ensures { RunsOver M.holds M.is_over M.beside (object_of difo.now) firing.now
+        memory.old machine.old result memory.new machine.new }
 {
     machine.restart();
     let mut index = 0;
@@ -67,29 +58,18 @@ pub fn run_on<M: Memory>(
     machine: &mut Machine,
     memory: &mut M,
 ) -> Result<Word, MachineFault>
-    requires known { Knows firing.now machine.old.known }
-    requires over { M.is_over memory.old machine.old.texts }
-    ensures ends { RunEnds valid.now firing.now (M.holds memory.old machine.old.texts)
-        (word_result machine.new.texts result) (M.holds memory.new machine.new.texts) }
-    ensures within { IfOk result (IsWithin machine.new.texts) }
-    ensures kept { Keeps machine.old.texts machine.new.texts }
-    ensures known { Knows firing.now machine.new.known }
-    ensures over { M.is_over memory.new machine.new.texts }
-    ensures beside { M.beside memory.new ≡ M.beside memory.old }
+    requires { IsReady M.is_over firing.now memory.old machine.old }
+    ensures { RunsOver M.holds M.is_over M.beside valid.now firing.now
+        memory.old machine.old result memory.new machine.new }
 {
     match valid.load() {
-        Load::BuiltIn(v) => {
-            let word = machine.built_in(firing, v)?;
-            Ok(word)
-        }
+        Load::BuiltIn(v) => Ok(machine.built_in(firing, v)?),
         Load::Argument(n) => Ok(Word::Int(argument(firing, n))),
-        Load::Local(x) => {
-            let word = machine.load(memory, Variable::Local(x))?;
-            Ok(word)
-        }
-        Load::Scalar(x) => {
-            let word = machine.load(memory, Variable::Scalar(x))?;
-            Ok(word)
+        Load::Local(x) => Ok(machine.load_local(memory, x)?),
+        Load::Scalar(x) => Ok(machine.load(memory, Variable::Scalar(x))?),
+        Load::Element(x, v) => {
+            let key = machine.built_in(firing, v)?;
+            Ok(machine.load_at(memory, x, key)?)
         }
         Load::Nothing => run_to_end(valid.difo(), firing, machine, memory),
     }
@@ -141,6 +121,5 @@ fn run_on_tables(
 {
     let mut machine = Machine::new(alloc, HashKey::of_seed(&[]))?;
     let word = run_on(valid, firing, &mut machine, tables)?;
-    let value = machine.value(word)?;
-    Ok(value)
+    Ok(machine.value(word)?)
 }

@@ -76,10 +76,7 @@ pub(crate) fn value_in(alloc: Global, texts: &Texts, word: Word) -> Result<Value
 {
     match word {
         Word::Int(n) => Ok(Value::Int(n)),
-        Word::Text(number) => {
-            let text = Text::from_slice(alloc, texts.text(number))?;
-            Ok(Value::Text(text))
-        }
+        Word::Text(number) => Ok(Value::Text(Text::from_slice(alloc, texts.text(number))?)),
     }
 }
 

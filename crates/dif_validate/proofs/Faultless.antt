@@ -89,13 +89,6 @@ goes_on i pc to h is = leb-false to pc (rw is at h)
 pub stays_in : (i : Instr) (size to : ℕ) → goes_out i size ≡ false → jump_target i ≡ Some to → to < size
 stays_in i size to h is = leb-false size to (rw is at h)
 
--- also of an instruction that isn't reached
-pub branches_well : (o : Object) (pc : ℕ) (i : Instr) (kind : Option Kind) (way : Option Shape) → fault_of_instr o pc i kind way ≡ None → (goes_back i pc ≡ false) × (goes_out i (length o.code) ≡ false)
-branches_well o pc i kind way h =
-    let a = if_so_none (goes_back i pc) _ _ h in
-    let b = if_so_none (goes_out i (length o.code)) _ _ a.1 in
-    (a.0, b.0)
-
 -- ---- the fault of an instruction is that of an index
 
 abbrev pub IsOfIndex : DifFault → Type 0

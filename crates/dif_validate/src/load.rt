@@ -1,7 +1,7 @@
 //! Objects that only load a value.
 
 ghost use Rattle.std.specs.Prelude.{◌≡◌, Some, IfSome};
-ghost use Rattle.dif_validate.specs.Loads.{IsAlone, IsArgument, Loads};
+ghost use Rattle.dif_validate.specs.Loads.{IsAlone, IsArgument, IsElement, Loads};
 ghost use Rattle.dif_validate.specs.Objects.{object_of};
 
 use crate::instruction::{Instr, MAX_BUILT_IN};
@@ -20,6 +20,8 @@ pub enum Load {
     Local(Var),
     /// A variable of the thread, without a key.
     Scalar(Var),
+    /// The element of a variable of the thread at the built-in variable of this number, a text.
+    Element(Var, u8),
     /// Nothing: it does more, or something else.
     Nothing,
 }
@@ -31,6 +33,9 @@ impl Load {
     {
         if let Some(n) = argument_alone(difo) {
             return Load::Argument(n);
+        }
+        if let Some((x, v)) = element_alone(difo) {
+            return Load::Element(x, v);
         }
         match before_return(difo) {
             Some(Instr::Ldgs(v, Reg::R1)) if v <= MAX_BUILT_IN => Load::BuiltIn(v),
@@ -56,6 +61,33 @@ fn argument_alone(difo: &Difo) -> Option<u64>
     };
     let n = difo.numbers.get(*i)?;
     Some(*n)
+}
+
+// The variable whose element an object loads and returns, and the built-in variable that is the
+// key. None of any other object.
+fn element_alone(difo: &Difo) -> Option<(Var, u8)>
+    ensures { IfSome result (λ e. IsElement (object_of difo.now) e.0 e.1) }
+{
+    let Some(Instr::Ldgs(v, Reg::R1)) = difo.code.get(0) else {
+        return None;
+    };
+    let Some(Instr::Pushtr(Reg::R1)) = difo.code.get(1) else {
+        return None;
+    };
+    let Some(Instr::Ldtaa(x, Reg::R1)) = difo.code.get(2) else {
+        return None;
+    };
+    let Some(Instr::Flushts) = difo.code.get(3) else {
+        return None;
+    };
+    let Some(Instr::Ret(Reg::R1)) = difo.code.get(4) else {
+        return None;
+    };
+    if 4 <= *v && *v <= MAX_BUILT_IN {
+        Some((*x, *v))
+    } else {
+        None
+    }
 }
 
 // The first instruction, if the second returns the first free register.

@@ -28,8 +28,8 @@ optional_object (Some e) = Some (compiled_object e)
 
 abbrev pub compiled_action : typed.Action → ActionCode
 compiled_action (Evaluate e) = Evaluate (compiled_object e)
-compiled_action (Trace e) = Trace (compiled_object e)
-compiled_action (Print format arguments) = Print format (compiled_objects arguments)
+compiled_action (Trace t e) = Trace t (compiled_object e)
+compiled_action (Print format types all) = Print format types (compiled_objects all)
 compiled_action (Exit e) = Exit (compiled_object e)
 compiled_action (Aggregate index keys argument) =
     Aggregate index (compiled_objects keys) (optional_object argument)

@@ -7,6 +7,7 @@ ghost use Rattle.dif_machine.specs.Steps.Instructions.{CanExecute, Executes};
 use crate::machine::Machine;
 use crate::onward::{Onward, Step};
 use dif_validate::{Function, Reg};
+use numbered::Word;
 
 /// `pushtr a`: adds a text.
 #[inline(always)]
@@ -15,8 +16,8 @@ pub(super) fn pushtr(machine: &mut Machine, a: Reg, next: usize) -> Step
     requires room { length machine.old.frame.tuple < 8 }
     ensures { Executes (Pushtr a) next machine.old result machine.new }
 {
-    let word = machine.word(a);
-    machine.push(word);
+    let number = machine.text_number(a);
+    machine.push(Word::Text(number));
     Ok(Onward::Goes(next))
 }
 
@@ -27,8 +28,8 @@ pub(super) fn pushtv(machine: &mut Machine, a: Reg, next: usize) -> Step
     requires room { length machine.old.frame.tuple < 8 }
     ensures { Executes (Pushtv a) next machine.old result machine.new }
 {
-    let word = machine.word(a);
-    machine.push(word);
+    let word = machine.number(a);
+    machine.push(Word::Int(word));
     Ok(Onward::Goes(next))
 }
 

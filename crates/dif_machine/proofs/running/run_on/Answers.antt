@@ -1,18 +1,19 @@
-use Rattle.std.specs.Prelude.{◌≡◌, ℕ, List, Result, Ok, Err, IsErrAnd}
-use Rattle.std.proofs.Common.{ap, refl, subst, sym}
+use Rattle.std.specs.Prelude.{◌≡◌, [], ◌∷◌, ℕ, List, Some}
+use Rattle.std.proofs.Common.{ap, refl, rules, subst, sym, ◌∙◌}
 use Rattle.std.proofs.lemmas.Option.{slice_get-get_or}
 use Rattle.numbered.specs.Texts.{Keeps}
-use Rattle.numbered.specs.declared.word.Word.{Word}
 use Rattle.dif_validate.specs.Loads.{Loads}
-use Rattle.dif_machine.specs.Vocabulary.{Int, Ldgs, Ldls, Ldts, MachineFault, Memory, Setx, Variables}
+use Rattle.dif_machine.specs.Vocabulary.{Int, Ldgs, Ldls, Ldts, Setx, Value, Variables}
 use Rattle.dif_machine.specs.Frames.{start}
-use Rattle.dif_machine.specs.Machine.{value_of, word_result}
-use Rattle.dif_machine.specs.Runs.{Returns, RunEnds, Runs}
+use Rattle.dif_machine.specs.Machine.{Knows, Seen, key_in}
+use Rattle.dif_machine.specs.Runs.{Returns, Runs}
+use Rattle.d_values.specs.Keys.{part_of}
 use Rattle.dif_machine.specs.Semantics.{on, puts}
-use Rattle.dif_machine.specs.Sources.{built_ins}
+use Rattle.dif_machine.specs.Sources.{built_ins, own_value}
 use Rattle.dif_validate.specs.declared.register.Reg.TheVariants.{R1}
-use Rattle.dif_machine.proofs.Arriving.{refused_first}
-use Rattle.dif_machine.proofs.Loading.{loads_argument, loads_word}
+use Rattle.dif_machine.proofs.Holding.{keeps_on, keeps_refl}
+use Rattle.dif_machine.proofs.Knowing.{text_is}
+use Rattle.dif_machine.proofs.Loading.{Leaves, loads_argument, loads_element, loads_word, refused, returned, unasked}
 use Rattle.dif_machine.proofs.running.run_on.Given.{Over}
 use Rattle.dif_machine.proofs.running.run_on.Goals.{Start}
 use Rattle.dif_machine.proofs.running.run_on.Goals as goal
@@ -21,53 +22,82 @@ module _ (g : Over) (c : Start g) where
   abbrev vars : Variables
   vars = g.M.Memory.holds c.args.memory.now c.args.machine.now.texts
 
-  refused : (texts : List (List ℕ)) (r : Result Word MachineFault) (after : Variables) → after ≡ vars → IsErrAnd r (λ e. e ≡ Memory) → RunEnds c.args.valid.now c.args.firing.now vars (word_result texts r) after
-  refused texts (Ok w) after same e = absurd e
-  refused texts (Err fault) after same e = subst (RunEnds c.args.valid.now c.args.firing.now vars (Err fault)) (sym same) (refused_first c.args.valid.now c.args.firing.now vars (Err fault) e)
-
-  returned : (texts : List (List ℕ)) (w : Word) (after : Variables) → after ≡ vars → Runs c.args.valid.now c.args.firing.now vars (Returns (value_of texts w) vars) → RunEnds c.args.valid.now c.args.firing.now vars (word_result texts (Ok w)) after
-  returned texts w after same run = subst (RunEnds c.args.valid.now c.args.firing.now vars (Ok (value_of texts w))) (sym same) run
-
   stays : (new : List (List ℕ)) → Keeps c.args.machine.now.texts new → g.M.Memory.is_over c.args.memory.now new × (g.M.Memory.holds c.args.memory.now new ≡ vars)
   stays new kept = g.met.M.Memory.stays c.args.memory.now c.args.machine.now.texts new c.requires.over kept
 
-pub returns-in_err-word-in-BuiltIn-clause-ends : goal.returns-in_err-word-in-BuiltIn-clause-ends
-returns-in_err-word-in-BuiltIn-clause-ends g c = let s = (goal.at.returns-in_err-word-in-BuiltIn-clause-ends g c).Start in refused g s _ _ _ (stays g s _ c.built_in.ensures.kept).1 c.from_residual.ensures.1
+  asked_not : (n : Seen) → Keeps c.args.machine.now.texts n.texts → Knows c.args.firing.now n.known → Leaves g.M.Memory.holds g.M.Memory.is_over g.M.Memory.beside c.args.firing.now c.args.memory.now c.args.machine.now c.args.memory.now n
+  asked_not n kept known = unasked g.M.Memory.holds g.M.Memory.is_over g.M.Memory.beside c.args.valid.now c.args.firing.now c.args.memory.now c.args.machine.now g.met.M.Memory.stays n c.requires.over kept known
 
-pub returns-in_err-word-in-Local-clause-ends : goal.returns-in_err-word-in-Local-clause-ends
-returns-in_err-word-in-Local-clause-ends g c = refused g (goal.at.returns-in_err-word-in-Local-clause-ends g c).Start _ _ _ c.load-in-Local.ensures.same c.from_residual-in_err-word-in-Local.ensures.1
+pub returns-in_err-built_in-in-BuiltIn : goal.returns-in_err-built_in-in-BuiltIn
+returns-in_err-built_in-in-BuiltIn g c = refused g.M.Memory.holds g.M.Memory.is_over g.M.Memory.beside c.args.valid.now c.args.firing.now c.args.memory.now c.args.machine.now _ _ _ (asked_not g (goal.at.returns-in_err-built_in-in-BuiltIn g c).Start _ c.built_in.ensures.kept c.built_in.ensures.known) c.from_residual.ensures.1
 
-pub returns-in_err-word-in-Scalar-clause-ends : goal.returns-in_err-word-in-Scalar-clause-ends
-returns-in_err-word-in-Scalar-clause-ends g c = refused g (goal.at.returns-in_err-word-in-Scalar-clause-ends g c).Start _ _ _ c.load-in-Scalar.ensures.same c.from_residual-in_err-word-in-Scalar.ensures.1
-
-pub returns-in_err-word-in-BuiltIn-clause-over : goal.returns-in_err-word-in-BuiltIn-clause-over
-returns-in_err-word-in-BuiltIn-clause-over g c = (stays g (goal.at.returns-in_err-word-in-BuiltIn-clause-over g c).Start _ c.built_in.ensures.kept).0
-
-pub returns-in_ok-word-in-BuiltIn-clause-over : goal.returns-in_ok-word-in-BuiltIn-clause-over
-returns-in_ok-word-in-BuiltIn-clause-over g c = (stays g (goal.at.returns-in_ok-word-in-BuiltIn-clause-over g c).Start _ c.built_in.ensures.kept).0
-
-pub returns-in_ok-word-in-BuiltIn-clause-ends : goal.returns-in_ok-word-in-BuiltIn-clause-ends
-returns-in_ok-word-in-BuiltIn-clause-ends g c =
-    let s = (goal.at.returns-in_ok-word-in-BuiltIn-clause-ends g c).Start in
+pub returns-in_ok-built_in-in-BuiltIn : goal.returns-in_ok-built_in-in-BuiltIn
+returns-in_ok-built_in-in-BuiltIn g c =
+    let s = (goal.at.returns-in_ok-built_in-in-BuiltIn g c).Start in
     let load = subst (λ l. Loads l c.args.valid.now) c.in-BuiltIn.is c.load.ensures in
     let there = slice_get-get_or (built_ins c.args.firing.now) c.in-BuiltIn.v (Int 0) load.1 in
-    returned g s _ _ _ (stays g s _ c.built_in.ensures.kept).1 (loads_word c.args.valid.now c.args.firing.now _ c.in_ok-word-in-BuiltIn.word (vars g s) (Ldgs c.in-BuiltIn.v R1) _ load.0.first load.0.second (ap (λ x. on x (λ value. puts start R1 value (vars g s))) there) c.in_ok-word-in-BuiltIn.ensures.word)
+    returned g.M.Memory.holds g.M.Memory.is_over g.M.Memory.beside c.args.valid.now c.args.firing.now c.args.memory.now c.args.machine.now _ _ _ (asked_not g s _ c.built_in.ensures.kept c.built_in.ensures.known) c.in_ok-built_in-in-BuiltIn.ensures.word.within
+    (loads_word c.args.valid.now c.args.firing.now _ _ (vars g s) (Ldgs c.in-BuiltIn.v R1) _ load.0.first load.0.second (ap (λ x. on x (λ value. puts start R1 value (vars g s))) there) c.in_ok-built_in-in-BuiltIn.ensures.word)
 
-pub returns-in-Argument-clause-ends : goal.returns-in-Argument-clause-ends
-returns-in-Argument-clause-ends g c =
-    let s = (goal.at.returns-in-Argument-clause-ends g c).Start in
+pub returns-in-Argument : goal.returns-in-Argument
+returns-in-Argument g c =
+    let s = (goal.at.returns-in-Argument g c).Start in
     let load = subst (λ l. Loads l c.args.valid.now) c.in-Argument.is c.load.ensures in
     let run = loads_argument c.args.valid.now c.args.firing.now (Setx load.i R1) c.in-Argument.n (vars g s) load.first load.second load.third (ap (λ x. on x (λ n. puts start R1 (Int n) (vars g s))) load.number) in
-    subst (λ n. RunEnds c.args.valid.now c.args.firing.now (vars g s) (Ok (Int n)) (vars g s)) (sym c.argument.ensures) run
+    returned g.M.Memory.holds g.M.Memory.is_over g.M.Memory.beside c.args.valid.now c.args.firing.now c.args.memory.now c.args.machine.now _ _ _ (asked_not g s _ (keeps_refl _) c.requires.known) (search rules) (subst (λ n. Runs c.args.valid.now c.args.firing.now (vars g s) (Returns (Int n) (vars g s))) (sym c.argument.ensures) run)
 
-pub returns-in_ok-word-in-Local-clause-ends : goal.returns-in_ok-word-in-Local-clause-ends
-returns-in_ok-word-in-Local-clause-ends g c =
-    let s = (goal.at.returns-in_ok-word-in-Local-clause-ends g c).Start in
+pub returns-in_err-load_local-in-Local : goal.returns-in_err-load_local-in-Local
+returns-in_err-load_local-in-Local g c =
+    let k = c.load_local.ensures.loads in
+    refused g.M.Memory.holds g.M.Memory.is_over g.M.Memory.beside c.args.valid.now c.args.firing.now c.args.memory.now c.args.machine.now _ _ _ (record { kept = k.kept; ready = record { known = subst (Knows c.args.firing.now) (sym c.load_local.ensures.grows.known) c.requires.known; over = k.over }; same = k.same; beside = k.beside }) c.from_residual-in_err-load_local-in-Local.ensures.1
+
+pub returns-in_ok-load_local-in-Local : goal.returns-in_ok-load_local-in-Local
+returns-in_ok-load_local-in-Local g c =
+    let s = (goal.at.returns-in_ok-load_local-in-Local g c).Start in
     let load = subst (λ l. Loads l c.args.valid.now) c.in-Local.is c.load.ensures in
-    returned g s _ _ _ c.load-in-Local.ensures.same (loads_word c.args.valid.now c.args.firing.now _ c.in_ok-word-in-Local.word (vars g s) (Ldls c.in-Local.x R1) _ load.first load.second refl c.in_ok-word-in-Local.ensures.word)
+    let k = c.load_local.ensures.loads in
+    returned g.M.Memory.holds g.M.Memory.is_over g.M.Memory.beside c.args.valid.now c.args.firing.now c.args.memory.now c.args.machine.now _ _ _ (record { kept = k.kept; ready = record { known = subst (Knows c.args.firing.now) (sym c.load_local.ensures.grows.known) c.requires.known; over = k.over }; same = k.same; beside = k.beside }) c.in_ok-load_local-in-Local.ensures.loads.word.within
+    (loads_word c.args.valid.now c.args.firing.now _ _ (vars g s) (Ldls c.in-Local.x R1) _ load.first load.second refl c.in_ok-load_local-in-Local.ensures.loads.word)
 
-pub returns-in_ok-word-in-Scalar-clause-ends : goal.returns-in_ok-word-in-Scalar-clause-ends
-returns-in_ok-word-in-Scalar-clause-ends g c =
-    let s = (goal.at.returns-in_ok-word-in-Scalar-clause-ends g c).Start in
+pub returns-in_err-load-in-Scalar : goal.returns-in_err-load-in-Scalar
+returns-in_err-load-in-Scalar g c =
+    let k = c.load-in-Scalar.ensures.loads in
+    refused g.M.Memory.holds g.M.Memory.is_over g.M.Memory.beside c.args.valid.now c.args.firing.now c.args.memory.now c.args.machine.now _ _ _ (record { kept = k.kept; ready = record { known = subst (Knows c.args.firing.now) (sym c.load-in-Scalar.ensures.grows.known) c.requires.known; over = k.over }; same = k.same; beside = k.beside }) c.from_residual-in_err-load-in-Scalar.ensures.1
+
+pub returns-in_ok-load-in-Scalar : goal.returns-in_ok-load-in-Scalar
+returns-in_ok-load-in-Scalar g c =
+    let s = (goal.at.returns-in_ok-load-in-Scalar g c).Start in
     let load = subst (λ l. Loads l c.args.valid.now) c.in-Scalar.is c.load.ensures in
-    returned g s _ _ _ c.load-in-Scalar.ensures.same (loads_word c.args.valid.now c.args.firing.now _ c.in_ok-word-in-Scalar.word (vars g s) (Ldts c.in-Scalar.x R1) _ load.first load.second refl c.in_ok-word-in-Scalar.ensures.word)
+    let k = c.load-in-Scalar.ensures.loads in
+    returned g.M.Memory.holds g.M.Memory.is_over g.M.Memory.beside c.args.valid.now c.args.firing.now c.args.memory.now c.args.machine.now _ _ _ (record { kept = k.kept; ready = record { known = subst (Knows c.args.firing.now) (sym c.load-in-Scalar.ensures.grows.known) c.requires.known; over = k.over }; same = k.same; beside = k.beside }) c.in_ok-load-in-Scalar.ensures.loads.word.within
+    (loads_word c.args.valid.now c.args.firing.now _ _ (vars g s) (Ldts c.in-Scalar.x R1) _ load.first load.second refl c.in_ok-load-in-Scalar.ensures.loads.word)
+
+pub load_at-requires-clause-over : goal.load_at-requires-clause-over
+load_at-requires-clause-over g c = (stays g (goal.at.load_at-requires-clause-over g c).Start _ c.built_in-in-Element.ensures.kept).0
+
+pub returns-in_err-key-in-Element : goal.returns-in_err-key-in-Element
+returns-in_err-key-in-Element g c = refused g.M.Memory.holds g.M.Memory.is_over g.M.Memory.beside c.args.valid.now c.args.firing.now c.args.memory.now c.args.machine.now _ _ _ (asked_not g (goal.at.returns-in_err-key-in-Element g c).Start _ c.built_in-in-Element.ensures.kept c.built_in-in-Element.ensures.known) c.from_residual-in_err-key-in-Element.ensures.1
+
+pub returns-in_err-load_at-in-Element : goal.returns-in_err-load_at-in-Element
+returns-in_err-load_at-in-Element g c =
+    let s = (goal.at.returns-in_err-load_at-in-Element g c).Start in
+    let b = c.built_in-in-Element.ensures in
+    let k = c.load_at.ensures in
+    let stay = (stays g s _ b.kept).1 in
+    refused g.M.Memory.holds g.M.Memory.is_over g.M.Memory.beside c.args.valid.now c.args.firing.now c.args.memory.now c.args.machine.now _ _ _ (record { kept = keeps_on _ _ _ b.kept k.loads.kept; ready = record { known = subst (Knows c.args.firing.now) (sym k.known) b.known; over = k.loads.over }; same = k.loads.same ∙ stay; beside = k.loads.beside }) c.from_residual-in_err-load_at-in-Element.ensures.1
+
+pub returns-in_ok-load_at-in-Element : goal.returns-in_ok-load_at-in-Element
+returns-in_ok-load_at-in-Element g c =
+    let s = (goal.at.returns-in_ok-load_at-in-Element g c).Start in
+    let b = c.built_in-in-Element.ensures in
+    let k = c.load_at.ensures in
+    let stay = (stays g s _ b.kept).1 in
+    let f = c.args.firing.now in
+    let load = subst (λ l. Loads l c.args.valid.now) c.in-Element.is c.load.ensures in
+    let text = text_is f c.in-Element.v load.text load.there in
+    let run = loads_element c.args.valid.now f c.in-Element.x c.in-Element.v _ (vars g s) load (slice_get-get_or (built_ins f) c.in-Element.v (Int 0) load.there ∙ ap Some text) in
+    let word = c.in_ok-load_at-in-Element.ensures.loads.word in
+    let is = word.is ∙ ap (λ vars. own_value vars c.in-Element.x (key_in c.built_in-in-Element.new.self.texts (c.in_ok-key-in-Element.key ∷ []))) stay
+    ∙ ap (λ (value : Value). own_value (vars g s) c.in-Element.x (part_of value ∷ [])) (c.in_ok-key-in-Element.ensures.word.is ∙ text) in
+    returned g.M.Memory.holds g.M.Memory.is_over g.M.Memory.beside c.args.valid.now c.args.firing.now c.args.memory.now c.args.machine.now _ _ _ (record { kept = keeps_on _ _ _ b.kept k.loads.kept; ready = record { known = subst (Knows c.args.firing.now) (sym k.known) b.known; over = k.loads.over }; same = k.loads.same ∙ stay; beside = k.loads.beside }) word.within
+    (subst (λ value. Runs c.args.valid.now f (vars g s) (Returns value (vars g s))) (sym is) run)

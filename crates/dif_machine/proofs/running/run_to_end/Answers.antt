@@ -12,7 +12,7 @@ there : (g : Over) (c : After-index-instr g) → slice_get (object_of c.args.dif
 there g c = slice_get_read c.args.difo.now.code.items _ c.loop-next.index c.index-instr.result.now refl c.loop-next.invariant.follows.reached.inside c.index-instr.ensures
 
 pub loop-next-init : goal.loop-next-init
-loop-next-init g c = begins g.M.Memory.holds g.M.Memory.is_over g.M.Memory.beside (object_of c.args.difo.now) c.args.firing.now c.args.memory.now c.args.machine.now _ c.requires.valid c.restart.ensures c.requires.known c.requires.over
+loop-next-init g c = begins g.M.Memory.holds g.M.Memory.is_over g.M.Memory.beside (object_of c.args.difo.now) c.args.firing.now c.args.memory.now c.args.machine.now _ c.requires.valid c.restart.ensures c.requires.ready.known c.requires.ready.over
 
 pub index-instr-requires : goal.index-instr-requires
 index-instr-requires g c =
@@ -22,8 +22,7 @@ index-instr-requires g c =
 pub execute-requires : goal.execute-requires
 execute-requires g c = record {
   runs = (c.loop-next.index, refl, runs g.M.Memory.holds g.M.Memory.is_over g.M.Memory.beside (object_of c.args.difo.now) c.args.firing.now c.args.memory.now c.args.machine.now c.loop-next.index c.loop-next.memory c.loop-next.machine c.loop-next.invariant c.index-instr.result.now (there g (goal.at.execute-requires g c).After-index-instr));
-  known = c.loop-next.invariant.known;
-  over = c.loop-next.invariant.over;
+  ready = record { known = c.loop-next.invariant.known; over = c.loop-next.invariant.over };
 }
 
 pub word-requires : goal.word-requires
@@ -37,8 +36,7 @@ returns-in-Ok-Ends g c =
       ends = returned g.M.Memory.holds g.M.Memory.is_over g.M.Memory.beside (object_of c.args.difo.now) c.args.firing.now c.args.memory.now c.args.machine.now c.loop-next.index c.loop-next.memory c.loop-next.machine c.loop-next.invariant c.index-instr.result.now there _ _ _ _ (rw c.in-Ok-Ends.field-0-is at c.in-Ok-Ends.ensures) c.word.ensures.is;
       within = c.word.ensures.within;
       kept = keeps_on _ _ _ c.loop-next.invariant.kept last.kept;
-      known = last.known c.loop-next.invariant.known;
-      over = last.over;
+      ready = record { known = last.known c.loop-next.invariant.known; over = last.over };
       beside = last.others ∙ c.loop-next.invariant.others;
     }
 
@@ -53,8 +51,7 @@ returns-in-Err g c =
       ends = failed g.M.Memory.holds g.M.Memory.is_over g.M.Memory.beside (object_of c.args.difo.now) c.args.firing.now c.args.memory.now c.args.machine.now c.loop-next.index c.loop-next.memory c.loop-next.machine c.loop-next.invariant c.index-instr.result.now there _ _ _ c.in-Err.ensures;
       within = tt;
       kept = keeps_on _ _ _ c.loop-next.invariant.kept last.kept;
-      known = last.known c.loop-next.invariant.known;
-      over = last.over;
+      ready = record { known = last.known c.loop-next.invariant.known; over = last.over };
       beside = last.others ∙ c.loop-next.invariant.others;
     }
 

@@ -20,28 +20,27 @@ kind_is c = kind_word c.args._texts.now c.args.x.kind c.args.word c.requires.kin
 is : (c : After-set) → with_word (word_in c.args.self.now.table) (key_of c.args.self.now.thread c.cell.result c.words.result.now) c.bits.result ≡ with_word (word_in c.args.self.now.table) (cell_key c.args.self.now.thread c.args.x c.args.key.now) (bits_of c.args.word)
 is c i = with_word (word_in c.args.self.now.table) (key_is c.args.self.now.thread c.args.x c.args.key.now c.cell.result c.words.result.now c.cell.ensures c.words.ensures.words i) (c.bits.ensures i)
 
-pub returns-clause-over : goal.returns-clause-over
-returns-clause-over c = (
-  on_either c.set.result c.set.ensures.ok c.set.ensures.err
-      (λ set. table_set c.args._texts.now c.args.self.now.table c.set.new.self c.args.self.now.thread c.args.x c.args.key.now c.args.word c.requires.distinct c.requires.over.0 (few c) c.requires.keyed c.requires.within (kind_is c) (set ∙ is c))
-      (λ same. table_same c.args._texts.now c.args.self.now.table c.set.new.self same c.requires.over.0),
-  c.requires.over.1,
-)
-
-pub returns-clause-ok : goal.returns-clause-ok
-returns-clause-ok c = on_ok c.set.result c.set.ensures.ok (λ set i. record {
-  locals = locals_in c.args._texts.now c.args.self.now.locals.items;
-  own = own_set c.args._texts.now c.args.self.now.table c.set.new.self c.args.self.now.thread c.args.x c.args.key.now c.args.word c.requires.distinct c.requires.over.0 (few c) c.requires.keyed c.requires.within (kind_is c) (set ∙ is c) i;
-})
-
-pub returns-clause-err : goal.returns-clause-err
-returns-clause-err c = on_err c.set.result c.set.ensures.err (λ same i. record {
-  locals = locals_in c.args._texts.now c.args.self.now.locals.items;
-  own = λ y k. value_of c.args._texts.now (word_of y.kind (same i (cell_key c.args.self.now.thread y (words_of c.args._texts.now k))));
-})
-
-pub returns-clause-beside : goal.returns-clause-beside
-returns-clause-beside c =
-    on_either c.set.result c.set.ensures.ok c.set.ensures.err
-    (λ set. beside_set c.args.self.now.table c.set.new.self c.args.self.now.thread c.args.x c.args.key.now (bits_of c.args.word) (set ∙ is c))
-    (λ same. beside_same c.args.self.now.table c.set.new.self c.args.self.now.thread same)
+pub returns : goal.returns
+returns c =
+    let texts = c.args._texts.now in
+    let old = c.args.self.now in
+    let table = c.set.new.self in
+    record {
+      over = (
+        on_either c.set.result c.set.ensures.ok c.set.ensures.err
+            (λ set. table_set texts old.table table old.thread c.args.x c.args.key.now c.args.word c.requires.distinct c.requires.over.0 (few c) c.requires.keyed c.requires.within (kind_is c) (set ∙ is c))
+            (λ same. table_same texts old.table table same c.requires.over.0),
+        c.requires.over.1,
+      );
+      ok = on_ok c.set.result c.set.ensures.ok (λ set i. record {
+        locals = locals_in texts old.locals.items;
+        own = own_set texts old.table table old.thread c.args.x c.args.key.now c.args.word c.requires.distinct c.requires.over.0 (few c) c.requires.keyed c.requires.within (kind_is c) (set ∙ is c) i;
+      });
+      err = on_err c.set.result c.set.ensures.err (λ same i. record {
+        locals = locals_in texts old.locals.items;
+        own = λ y k. value_of texts (word_of y.kind (same i (cell_key old.thread y (words_of texts k))));
+      });
+      beside = on_either c.set.result c.set.ensures.ok c.set.ensures.err
+          (λ set. beside_set old.table table old.thread c.args.x c.args.key.now (bits_of c.args.word) (set ∙ is c))
+          (λ same. beside_same old.table table old.thread same);
+    }

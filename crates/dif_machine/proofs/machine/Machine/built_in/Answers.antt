@@ -9,5 +9,5 @@ returns-clause-frame c =
     let new = c.built_in.new.texts in
     (frame_kept i.texts new c.built_in.ensures.kept i.registers i.comparison i.tuple i.numbers c.self.invariant ∙ ap (λ s. s.frame) c.self.view_is)
 
-pub built_in-requires-clause-known : goal.built_in-requires-clause-known
-built_in-requires-clause-known c = subst (λ (s : Seen). Knows c.args.firing.now s.known) (sym c.self.view_is) c.requires.known
+pub built_in-requires-clause-found : goal.built_in-requires-clause-found
+built_in-requires-clause-found c = record { known = subst (λ (s : Seen). Knows c.args.firing.now s.known) (sym c.self.view_is) c.requires.known; numbers = c.self.invariant.numbers }

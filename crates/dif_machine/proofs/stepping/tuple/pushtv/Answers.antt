@@ -7,4 +7,4 @@ use Rattle.dif_machine.proofs.stepping.tuple.pushtv.Goals as goal
 pub returns : goal.returns
 returns c = λ o f. goes _ _ o f _ _ _ c.push.ensures (λ index is_next vars.
     let here = can_here (Pushtv c.args.a) c.args.next c.args.machine.now.frame c.requires.can index is_next in
-    pushes_number (at_index c.args.machine.now.frame index) here.2 vars here.0 o here.1 f c.args.a _ here.3 c.word-word.ensures.is)
+    pushes_number (at_index c.args.machine.now.frame index) here.2 vars here.0 o here.1 f c.args.a _ here.3 c.number-word.ensures)

@@ -6,7 +6,7 @@ use Rattle.dif_machine.proofs.stepping.variables.load.Goals as goal
 
 pub returns : goal.returns
 returns g c = λ o f.
-    let k = c.load.ensures in
-    loaded g.M.Memory.holds g.M.Memory.is_over g.M.Memory.beside o f c.args.memory.now c.args.machine.now c.args.next (load_of c.args.variable c.args.d) c.args.d _ _ _ _ _ k.grows k.over k.same k.beside c.in_ok-word.ensures.word c.put.ensures (λ index is_next.
+    let k = c.load.ensures.loads in
+    loaded g.M.Memory.holds g.M.Memory.is_over g.M.Memory.beside o f c.args.memory.now c.args.machine.now c.args.next (load_of c.args.variable c.args.d) c.args.d _ _ _ _ _ c.load.ensures.grows k.over k.same k.beside c.in_ok-word.ensures.loads.word c.put.ensures (λ index is_next.
     let here = can_here (load_of c.args.variable c.args.d) c.args.next c.args.machine.now.frame c.requires.can index is_next in
     loads (at_index c.args.machine.now.frame index) here.2 _ here.0 o here.1 f c.args.variable c.args.d here.3)
