@@ -6,7 +6,6 @@ use Rattle.std.proofs.lemmas.List.{length-take-le, take-append-drop, take_at}
 use Rattle.csv.specs.Reading.{default_config, is_bom, records, strip_bom}
 use Rattle.csv.specs.declared.parser.State.TheVariants as st
 use Rattle.firing_reader.specs.declared.blocks.Stage.{Stage}
-use Rattle.firing_reader.specs.declared.blocks.Stage.TheVariants as stage
 use Rattle.std.specs.Prelude.{◌⊎◌, OnErr, OnOk, Result}
 use Rattle.std.specs.declared.alloc.AllocError.{AllocError}
 use Rattle.firing_reader.specs.declared.fault.TraceFault.{TraceFault}

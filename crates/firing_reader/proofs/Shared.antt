@@ -1,8 +1,8 @@
 -- Units that are kept with their bytes, and what they say.
 use Rattle.std.proofs.Common.{◌≡◌, ◌<◌, ◌≤◌, ◌+◌, ◌-◌, ◌∙◌, ℕ, zero, suc, true, false, List, [], ◌∷◌, ◌++◌}
 use Rattle.std.proofs.Common.{length, map, All, Option, None, Some, refl, sym, ap, subst, arith}
-use Rattle.std.proofs.Common.{length-append}
-use Rattle.std.specs.Prelude.{IfSome, codes, slice_get}
+use Rattle.std.proofs.Common.{append-nil, length-append}
+use Rattle.std.specs.Prelude.{IfSome, MatchOption, codes, slice_get}
 use Rattle.std.proofs.Math.Seq.{drop-append-add, drop-append_seam, take-append_seam}
 use Rattle.std.proofs.lemmas.List.{map-append, take_all}
 use Rattle.std.proofs.lemmas.List.Elements.{All-append, All-cons, All-head, All-nil, All-tail}
@@ -53,6 +53,16 @@ units_push I R b key ks k all first many is_in reads =
     let size = length-append b key in
     let one : P k = record { unit = record { inside = omega (arith, size, first, many); is_in = rw (first, many, last_part b key) is_in }; reads = rw (first, many, last_part b key) reads } in
     All-append P ks (k ∷ []) (λ i d within. unit_more I R b key _ (all i d within)) (All-cons P k [] one (All-nil P))
+
+-- a list that one more was added to, if there was memory: it goes on, and has it at the new index
+last_there : {X : Type 0} (xs : List X) (x : X) → slice_get (xs ++ x ∷ []) (length xs) ≡ Some x
+last_there [] x = refl
+last_there (y ∷ xs) x = last_there xs x
+
+pub push_gains : {X : Type 0} (xs ys : List X) (x : X) (found : Option ℕ) → MatchOption found (ys ≡ xs) (λ p. (ys ≡ xs ++ x ∷ []) × (p ≡ length xs))
+    → Extends xs ys × IfSome found (λ p. slice_get ys p ≡ Some x)
+push_gains xs ys x None same = (([], same ∙ sym (append-nil xs)), tt)
+push_gains xs ys x (Some p) (is, at) = ((x ∷ [], is), rw (is, at) (last_there xs x))
 
 -- what is there, whether it was read or not
 pub units_there : {E : Type 0} (I R : E → List ℕ → Type 0) (b : List ℕ) (ks : List (Known E)) → All (IsReadIn I R b) ks → All (IsUnitIn I b) ks

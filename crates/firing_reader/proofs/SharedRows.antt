@@ -1,7 +1,6 @@
 -- Plain rows that several workers read.
-use Rattle.std.proofs.Common.{◌≡◌, ◌≤◌, ◌+◌, ◌-◌, ℕ, suc, List, ◌∷◌, ◌++◌, length}
-use Rattle.std.proofs.Common.{drop, refl, sym, ap, ◌∙◌, append_assoc, arith}
-use Rattle.std.proofs.Common.{inl, length-append}
+use Rattle.std.proofs.Common.{◌≡◌, ◌+◌, ◌-◌, ℕ, suc, List, ◌∷◌, ◌++◌, length}
+use Rattle.std.proofs.Common.{drop, refl, sym, ap, ◌∙◌, append_assoc, arith, inl, length-append}
 use Rattle.std.proofs.Math.Seq.{drop-append-add, drop-length}
 use Rattle.firings.specs.declared.firing.Firing.{Firing}
 use Rattle.firing_reader.specs.Pieces.{AreCut, GoesOn, PassesRows}
@@ -66,13 +65,11 @@ passes_on old bytes front last mid new count more c h whole p =
     let first = first_left old bytes front last mid count c h whole in
     record {
       read = rw (last_left bytes front last count more c whole) (goes_both old bytes mid last new (left_after more last) first p.read);
-      few = p.few;
       inside = omega (arith, size, both, own, whole, p.inside);
     }
 
-pub passes_alone : (old : List Firing) (bytes : List ℕ) (new : List Firing) (rest : List ℕ) → Leaves bytes rest → GoesOn old bytes new rest → length new ≤ 1_000_000 → PassesRows old bytes new (length bytes - length rest)
-passes_alone old bytes new rest h g few = record {
+pub passes_alone : (old : List Firing) (bytes : List ℕ) (new : List Firing) (rest : List ℕ) → Leaves bytes rest → GoesOn old bytes new rest → PassesRows old bytes new (length bytes - length rest)
+passes_alone old bytes new rest h g = record {
   read = goes_end old bytes new h.end 10 (drop (length bytes - length rest + 1) bytes) h.ends (inl refl) (rw (left_at bytes rest h, ← h.is_rest) g);
-  few = few;
   inside = omega (arith, ap length h.is_bytes, length-append h.front h.after, ap length h.is_rest);
 }

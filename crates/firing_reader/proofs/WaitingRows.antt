@@ -1,7 +1,7 @@
 -- Rows that wait: pieces of bytes that were read apart.
 use Rattle.std.proofs.Common.{◌≡◌, ◌<◌, ◌≤◌, ◌+◌, ◌-◌, ◌⊎◌, ℕ, zero, suc, List, [], ◌∷◌, ◌++◌, length, take, drop, get_or, take-append-drop}
 use Rattle.std.proofs.Common.{Result, Ok, Err, refl, sym, ap, subst, ◌∙◌, arith, append_assoc}
-use Rattle.std.proofs.Common.{length-append, inr, inl}
+use Rattle.std.proofs.Common.{inr, inl}
 use Rattle.std.specs.declared.alloc.AllocError.{AllocError}
 use Rattle.std.specs.Prelude.{IfSome, OnErr, OnOk, option_map, slice_get}
 use Rattle.std.proofs.Math.Seq.{take-append_seam}
@@ -11,7 +11,7 @@ use Rattle.firing_reader.specs.declared.blocks.Stage.TheVariants as stage
 use Rattle.firings.specs.declared.firing.Firing.{Firing}
 use Rattle.firing_reader.specs.declared.pieces.Piece.{Piece}
 use Rattle.firing_reader.specs.Vocabulary.{Memory, TraceFault}
-use Rattle.firing_reader.specs.Blocks.{AreRead, BeginsAtFeed, reads_at}
+use Rattle.firing_reader.specs.Blocks.{BeginsAtFeed, reads_at}
 use Rattle.firing_reader.specs.Plain.{rows_in, with_front}
 use Rattle.firing_reader.specs.Pieces.{AreCut, ArePieces, BeginsWithPiece, GoesOn, IsKeptAt}
 use Rattle.firing_reader.specs.Pieces.{PassesRows, unread}
@@ -20,7 +20,7 @@ use Rattle.firing_reader.specs.Steps.Pieces.{Adds, IsAdded}
 use Rattle.firings.specs.Firings.{last_number, number_of}
 use Rattle.firing_reader.specs.Trace.{rows_of}
 use Rattle.firing_reader.proofs.BlockSteps.{read_after}
-use Rattle.firing_reader.proofs.PlainRows.{goes_first, goes_rows}
+use Rattle.firing_reader.proofs.PlainRows.{goes_first}
 use Rattle.firing_reader.proofs.Rows.{rows_first}
 use Rattle.firing_reader.proofs.SharedRows.{goes_more, passes_on}
 use Rattle.firing_reader.proofs.Written.{rows_moved}
@@ -32,14 +32,12 @@ pub piece_after : (old : List Firing) (bytes : List ℕ) (fs new : List Firing) 
     → new ≡ old ++ fs → PassesRows old bytes new count
 piece_after old bytes fs new count p few first is =
     let own : rows_of 1 0 p.read.rows ≡ Ok fs = sym (rows_first p.read.rows) ∙ p.read.read in
-    let size = length-append old fs in
     record {
       read = record {
         rows = p.read.rows;
         read = rw is (ap (with_front old) (rows_moved (length old + 1) (last_number old) p.read.rows fs own first (omega (arith, few))));
         taken = p.read.taken;
       };
-      few = rw is (omega (arith, size, few));
       inside = p.inside;
     }
 
@@ -80,10 +78,6 @@ added_after (Err e) old (b ∷ w) mid y new rest some g h feed = read_after (Err
 pub adds_leads : (old : List Firing) (w : List ℕ) (new : List Firing) (rest : List ℕ) → Adds old w new rest → Leads rest
 adds_leads old [] new rest (same, none) left feed = rw none feed
 adds_leads old (b ∷ w) new rest (read, begins) left feed = feed_leads rest begins left feed
-
-pub adds_read : (old : List Firing) (w : List ℕ) (new : List Firing) (rest : List ℕ) → Adds old w new rest → AreRead old → AreRead new
-adds_read old [] new rest (same, none) read = rw same read
-adds_read old (b ∷ w) new rest (goes, begins) read = goes_rows old (b ∷ w) new rest goes read
 
 unread_feed : (w left : List ℕ) → BeginsAtFeed w → unread w left ≡ w ++ drop 1 left
 unread_feed w left (after, is) = subst (λ (x : List ℕ). unread x left ≡ x ++ drop 1 left) (sym is) refl

@@ -1,13 +1,12 @@
 -- Pieces of bytes, one after another, that were read apart, and what of a trace waits in them.
-use Rattle.std.specs.Prelude.{◌≡◌, ◌<◌, ◌≤◌, ℕ, List, [], ◌∷◌, ◌++◌, ◌+◌, drop, length, take}
-use Rattle.std.specs.Prelude.{Some, Ok}
+-- Source: RFC 4180, section 2, with the reading of the crate `csv`.
+use Rattle.std.specs.Prelude.{◌≡◌, ◌<◌, ℕ, List, [], ◌∷◌, ◌++◌, ◌+◌, drop, length, take, Some, Ok}
 use Rattle.csv.specs.declared.parser.State.{State}
 use Rattle.firing_reader.specs.declared.blocks.Stage.{Stage}
 use Rattle.firing_reader.specs.declared.blocks.Stage.TheVariants.{Header, Rows, Refused}
 use Rattle.firing_reader.specs.declared.pieces.Piece.{Piece}
 use Rattle.firing_reader.specs.declared.waiting.Progress.{Progress}
 use Rattle.firings.specs.declared.firing.Firing.{Firing}
-use Rattle.firings.specs.declared.limits.TheConstants.{MAX_ROWS}
 use Rattle.firing_reader.specs.Left.{left_in}
 use Rattle.firing_reader.specs.Plain.{BeginsAtEnd, IsEnd, rows_after}
 use Rattle.firing_reader.specs.Blocks.{AreRead, BeginsAtFeed}
@@ -26,7 +25,6 @@ pub record GoesOn (old : List Firing) (bytes : List ℕ) (new : List Firing) (re
 pub record PassesRows (old : List Firing) (bytes : List ℕ) (new : List Firing) (count : ℕ)
     : Type 0 where
   pub read : GoesOn old bytes new (10 ∷ drop (count + 1) bytes)
-  pub few : length new ≤ MAX_ROWS
   pub inside : count < length bytes
 
 -- two pieces that share the end of a row

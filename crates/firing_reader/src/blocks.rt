@@ -111,20 +111,6 @@ impl Reader {
         self.read(rt)
     }
 
-    // Takes bytes block by block.
-    fn take_all<R: Threads>(&mut self, rt: &R, bytes: &[u8]) -> Result<(), AllocError>
-        ensures { OnOk result
-            ((rest : List ℕ) → reads self.new rest ≡ reads self.old (bytes.now ++ rest)) }
-    {
-        let mut left = bytes;
-        while !left.is_empty() {
-            let (block, rest) = left.split_at(left.len().min(BLOCK));
-            self.take(rt, block)?;
-            left = rest;
-        }
-        Ok(())
-    }
-
     /// Moves the row that isn't whole to a block, after a line feed. Then one thread can add to the
     /// block while another reads the rows before it.
     ///
@@ -176,7 +162,7 @@ impl Reader {
             ..
         } = self;
         match read_left(rt, stage, &mut progress) {
-            Ok(()) => Ok(Trace::of(progress.finish())),
+            Ok(()) => Ok(Trace::of(progress.firings.finish())),
             Err(fault) => {
                 drop(progress);
                 Err(fault)
@@ -224,13 +210,13 @@ pub fn read_trace_by<R: Threads>(
     ensures { Gives result (trace_of bytes.now) }
 {
     let mut reader = Reader::new(alloc, hash_key, workers, BLOCK)?;
-    match reader.take_all(rt, bytes) {
-        Ok(()) => reader.finish(rt),
-        Err(_) => {
-            drop(reader);
-            Err(TraceFault::Memory)
-        }
+    let mut left = bytes;
+    while !left.is_empty() {
+        let (block, rest) = left.split_at(left.len().min(BLOCK));
+        reader.take(rt, block)?;
+        left = rest;
     }
+    reader.finish(rt)
 }
 
 // How many bytes there are up to the last one that ends a row, and with it; all of them if there

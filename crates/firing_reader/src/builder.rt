@@ -103,20 +103,14 @@ impl FiringsBuilder {
     pub(crate) fn first_number(&self) -> Option<u64>
         ensures { result ≡ option_map number_of (slice_get self.now 0) }
     {
-        match self.rows.first() {
-            Some(row) => Some(row.number),
-            None => None,
-        }
+        self.rows.first().map(|row| row.number)
     }
 
     /// The number of the last, or 0 if there are none.
     pub(crate) fn last_number(&self) -> u64
         ensures { result ≡ last_number_of self.now }
     {
-        match self.rows.last() {
-            Some(row) => row.number,
-            None => 0,
-        }
+        self.rows.last().map_or(0, |row| row.number)
     }
 
     /// Stores one more. If memory is refused, returns None and leaves the firings as they were.

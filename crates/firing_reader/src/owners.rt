@@ -1,13 +1,10 @@
 //! Who fired, as rows say it.
 
 ghost use Rattle.std.specs.Prelude.{◌≡◌, ◌++◌, ℕ, List, Some, IfSome, map, slice_get};
-ghost use Rattle.firings.specs.{declared.unit.Owner.Owner};
-ghost use Rattle.firing_reader.specs.{Plain.ReadsOwner};
-ghost use Rattle.firing_reader.specs.{Steps.Stored.owner_of};
-ghost use Rattle.firings.specs.{Stored.Extends, Units.owner_in};
+ghost use Rattle.firing_reader.specs.Steps.Stored.{Gains, owner_of};
+ghost use Rattle.firings.specs.{Units.owner_in};
 
 use crate::plain::field::{int, text};
-use crate::plain::unit::end_of_three;
 use crate::unit_table::{PlainEntry, UnitTable, add_bytes};
 use firings::{Firing, MAX_TEXT, OwnerEntry};
 use std::alloc::Global;
@@ -51,8 +48,7 @@ pub(crate) fn keep_owner(
     alloc: Global,
     firing: &Firing,
 ) -> Option<u32>
-    ensures grows { Extends (map owner_in owners.old) (map owner_in owners.new) }
-    ensures index { IfSome result
+    ensures { Gains owners.old owners.new result
         (λ p. slice_get (map owner_in owners.new) p ≡ Some (owner_of firing.now)) }
 {
     let bytes = owner_bytes(alloc, firing)?;
@@ -65,22 +61,6 @@ pub(crate) fn keep_owner(
             count: firing.execname.count(),
         },
     )
-}
-
-/// The index of the owner whose fields come first, and what comes after them.
-#[inline(always)]
-pub(crate) fn read_owner<'a>(
-    owners: &mut UnitTable<OwnerEntry>,
-    bytes: &'a [u8],
-) -> Option<(u32, &'a [u8])>
-    ensures grows { Extends (map owner_in owners.old) (map owner_in owners.new) }
-    ensures owner { IfSome result (λ p. (owner : Owner)
-        × (slice_get (map owner_in owners.new) p.0 ≡ Some owner)
-        × ReadsOwner bytes.now p.1.now owner) }
-{
-    let (key, rest) = bytes.split_at(end_of_three(bytes));
-    let index = owners.read(key)?;
-    Some((index, rest))
 }
 
 // The bytes of an owner that csv read: its text, and four for each of its numbers.

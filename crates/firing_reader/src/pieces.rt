@@ -1,10 +1,10 @@
 //! Plain rows that several workers read: each has a piece of the bytes, and two pieces share the
 //! end of the row between them.
 
-ghost use Rattle.std.specs.Prelude.{◌≡◌, ◌<◌, ◌≤◌, ◌+◌, ◌-◌, [], true, IfSome, drop, get_or};
+ghost use Rattle.std.specs.Prelude.{◌≡◌, ◌<◌, ◌≤◌, ◌+◌, ◌-◌, [], true, IfSome, drop};
 ghost use Rattle.std.specs.Prelude.{length, option_map, slice_get};
 ghost use Rattle.firings.specs.Firings.{last_number, number_of};
-ghost use Rattle.firing_reader.specs.Plain.{BeginsAtEnd, IsEnd};
+ghost use Rattle.firing_reader.specs.Plain.{BeginsAtEnd};
 ghost use Rattle.firing_reader.specs.Pieces.{AreCut, ArePieces, PassesRows};
 
 use crate::builder::FiringsBuilder;
@@ -53,49 +53,28 @@ pub(crate) fn read_piece(piece: &mut Piece, bytes: &[u8])
     piece.end = bytes.len() - 1;
 }
 
-/// Bytes cut in two, which share the end of a row.
-#[derive(Clone, Copy)]
-pub(crate) struct Cut<'a> {
-    pub(crate) front: &'a [u8],
-    pub(crate) last: &'a [u8],
-}
-
-/// Cuts bytes at the first end of a row from an index on, or else at the first of all.
-pub(crate) fn cut_near(bytes: &[u8], from: usize) -> Cut<'_>
+/// Cuts bytes at the first end of a row from an index on, or else at the first of all: both parts
+/// have that end. After the byte that ends a row, others only end empty lines.
+pub(crate) fn cut_near(bytes: &[u8], from: usize) -> (&[u8], &[u8])
     requires { BeginsAtEnd bytes.now }
-    ensures cut { AreCut bytes.now result.front.now result.last.now }
-    ensures last { result.last.now ≡ drop (length result.front.now - 1) bytes.now }
-{
-    let at = end_near(bytes, from);
-    Cut {
-        front: &bytes[..at + 1],
-        last: &bytes[at..],
-    }
-}
-
-// The index of the first end of a row from an index on, or else 0. After the byte that ends a row,
-// others only end empty lines.
-fn end_near(bytes: &[u8], from: usize) -> usize
-    requires { BeginsAtEnd bytes.now }
-    ensures inside { result < length bytes.now }
-    ensures end { IsEnd (get_or bytes.now result 0) }
+    ensures cut { AreCut bytes.now result.0.now result.1.now }
+    ensures last { result.1.now ≡ drop (length result.0.now - 1) bytes.now }
 {
     for at in from..bytes.len() {
         if is_end(bytes[at]) && (at == 0 || !is_end(bytes[at - 1])) {
-            return at;
+            return (&bytes[..at + 1], &bytes[at..]);
         }
     }
-    0
+    (&bytes[..1], bytes)
 }
 
 // Whether a trace may have the second after the first.
 fn goes_after(first: &FiringsBuilder, second: &FiringsBuilder) -> bool
-    requires { length first.now ≤ MAX_ROWS }
     ensures few { result ≡ true → length first.now + length second.now ≤ MAX_ROWS }
     ensures rises { result ≡ true → IfSome (option_map number_of (slice_get second.now 0))
         (λ number. last_number first.now < number) }
 {
-    if second.len() > MAX_ROWS as usize - first.len() {
+    if first.len().saturating_add(second.len()) > MAX_ROWS as usize {
         return false;
     }
     match second.first_number() {
@@ -109,7 +88,6 @@ fn goes_after(first: &FiringsBuilder, second: &FiringsBuilder) -> bool
 // refused.
 fn add_piece(firings: &mut FiringsBuilder, piece: &Piece, bytes: &[u8]) -> Option<usize>
     requires feed { BeginsAtEnd bytes.now }
-    requires few { length firings.old ≤ MAX_ROWS }
     requires piece { PassesRows [] bytes.now piece.now.firings piece.now.passed }
     ensures { IfSome result (PassesRows firings.old bytes.now firings.new) }
 {
@@ -128,8 +106,7 @@ pub(crate) fn add_pieces(
     pieces: &[Piece],
     bytes: &[u8],
 ) -> Option<usize>
-    requires pieces { ArePieces pieces.now bytes.now }
-    requires few { length firings.old ≤ MAX_ROWS }
+    requires { ArePieces pieces.now bytes.now }
     ensures { IfSome result (PassesRows firings.old bytes.now firings.new) }
 {
     let Some((piece, others)) = pieces.split_first() else {

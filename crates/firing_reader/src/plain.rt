@@ -1,6 +1,5 @@
 //! Plain rows, without quotes, read where they lie in the trace. csv reads all others.
 
-ghost use Rattle.std.specs.Prelude.{◌≤◌, length};
 ghost use Rattle.firing_reader.specs.{Pieces.PassesRows, Plain.BeginsAtEnd};
 
 use crate::builder::FiringsBuilder;
@@ -16,8 +15,7 @@ pub(crate) mod unit;
 /// before what is left.
 #[inline(never)]
 pub(crate) fn read_plain(firings: &mut FiringsBuilder, bytes: &[u8]) -> usize
-    requires few { length firings.old ≤ MAX_ROWS }
-    requires begins { BeginsAtEnd bytes.now }
+    requires { BeginsAtEnd bytes.now }
     ensures { PassesRows firings.old bytes.now firings.new result }
 {
     let mut rest = bytes;

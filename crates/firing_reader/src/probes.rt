@@ -1,12 +1,10 @@
 //! Which probe fired, as rows say it.
 
 ghost use Rattle.std.specs.Prelude.{◌≡◌, ◌++◌, ◌∷◌, [], Some, IfSome, map, slice_get};
-ghost use Rattle.firings.specs.{declared.unit.Probe.Probe};
-ghost use Rattle.firing_reader.specs.{Plain.ReadsProbe};
-ghost use Rattle.firings.specs.{Probing.probe_of, Stored.Extends, Units.probe_in};
+ghost use Rattle.firings.specs.{Probing.probe_of, Units.probe_in};
+ghost use Rattle.firing_reader.specs.{Steps.Stored.Gains};
 
 use crate::plain::field::text;
-use crate::plain::unit::end_of_four;
 use crate::row::RESERVED;
 use crate::unit_table::{PlainEntry, UnitTable, add_bytes};
 use firings::{Firing, MAX_TEXT, ProbeEntry, Text};
@@ -47,8 +45,7 @@ pub(crate) fn keep_probe(
     alloc: Global,
     firing: &Firing,
 ) -> Option<u32>
-    ensures grows { Extends (map probe_in probes.old) (map probe_in probes.new) }
-    ensures index { IfSome result
+    ensures { Gains probes.old probes.new result
         (λ p. slice_get (map probe_in probes.new) p ≡ Some (probe_of firing.now)) }
 {
     let bytes = probe_bytes(alloc, firing)?;
@@ -61,22 +58,6 @@ pub(crate) fn keep_probe(
             name: firing.name.count(),
         },
     )
-}
-
-/// The index of the probe whose fields come first, and what comes after them.
-#[inline(always)]
-pub(crate) fn read_probe<'a>(
-    probes: &mut UnitTable<ProbeEntry>,
-    bytes: &'a [u8],
-) -> Option<(u32, &'a [u8])>
-    ensures grows { Extends (map probe_in probes.old) (map probe_in probes.new) }
-    ensures probe { IfSome result (λ p. (probe : Probe)
-        × (slice_get (map probe_in probes.new) p.0 ≡ Some probe)
-        × ReadsProbe bytes.now p.1.now probe) }
-{
-    let (key, rest) = bytes.split_at(end_of_four(bytes));
-    let index = probes.read(key)?;
-    Some((index, rest))
 }
 
 // The bytes of a probe that csv read: each text, and a zero after it.

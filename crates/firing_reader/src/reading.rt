@@ -4,6 +4,7 @@ ghost use Rattle.std.specs.Prelude.{◌≤◌, ◌≡◌, ◌≢◌, ◌⊎◌, 
 ghost use Rattle.std.specs.Prelude.{MatchBool, length};
 ghost use Rattle.csv.specs.Reading.{records as records_of, default_config, strip_bom};
 ghost use Rattle.firing_reader.specs.{Vocabulary.Memory};
+ghost use Rattle.firing_reader.specs.Steps.Left.{IsBetween, records_left};
 ghost use Rattle.firing_reader.specs.Gives.{Gives, GivesBy};
 ghost use Rattle.firing_reader.specs.Plain.{BeginsAtEnd, rows_after, rows_in};
 ghost use Rattle.firing_reader.specs.Trace.{trace_of};
@@ -11,34 +12,34 @@ ghost use Rattle.firing_reader.specs.Trace.{trace_of};
 use crate::builder::FiringsBuilder;
 use crate::fault::TraceFault;
 use crate::header::is_header;
-use crate::records::Records;
+use crate::records::{read_record, records_of};
 use crate::row::read_next;
-use csv::ByteRecord;
+use csv::{ByteRecord, Reader};
 use firings::{MAX_ROWS, Trace};
 use keyed_hash::HashKey;
 use std::alloc::Global;
 
 // Reads the rows that are left, after firings that were read before.
 fn read_rows(
-    records: &mut Records,
+    records: &mut Reader<&[u8]>,
     fields: &mut ByteRecord,
     firings: &mut FiringsBuilder,
 ) -> Result<(), TraceFault>
-    requires few { length firings.old ≤ MAX_ROWS }
-    ensures { GivesBy (λ _. firings.new) result (rows_after firings.old records.old) }
+    requires { IsBetween records.old }
+    ensures { GivesBy (λ _. firings.new) result
+        (rows_after firings.old (records_left records.old)) }
 {
     let mut args = [0; 10];
-    let first = firings.len() as u32 + 1;
-    for row in first..MAX_ROWS + 1 {
-        if !records.read(fields)? {
+    for row in firings.len()..MAX_ROWS as usize {
+        if !read_record(records, fields)? {
             return Ok(());
         }
-        let firing = read_next(fields, &mut args, row, firings.last_number())?;
+        let firing = read_next(fields, &mut args, row as u32 + 1, firings.last_number())?;
         let Some(()) = firings.push(&firing) else {
             return Err(TraceFault::Memory);
         };
     }
-    if records.read(fields)? {
+    if read_record(records, fields)? {
         return Err(TraceFault::TooMany);
     }
     Ok(())
@@ -47,11 +48,10 @@ fn read_rows(
 /// Reads rows by csv, after firings that were read before. They begin at the end of the row before
 /// the first of them.
 pub(crate) fn read_by_csv(firings: &mut FiringsBuilder, rows: &[u8]) -> Result<(), TraceFault>
-    requires begins { BeginsAtEnd rows.now }
-    requires few { length firings.old ≤ MAX_ROWS }
+    requires { BeginsAtEnd rows.now }
     ensures { GivesBy (λ _. firings.new) result (rows_in firings.old rows.now) }
 {
-    let mut records = Records::new(firings.alloc(), rows);
+    let mut records = records_of(firings.alloc(), rows);
     let mut fields = ByteRecord::new(firings.alloc());
     read_rows(&mut records, &mut fields, firings)
 }
@@ -64,9 +64,9 @@ pub(crate) fn read_records(firings: &mut FiringsBuilder, bytes: &[u8]) -> Result
     ensures faulty { IfErr result (λ e. (e ≡ Memory) ⊎ ((trace_of bytes.now ≡ Err e)
         × (records_of default_config (strip_bom bytes.now) ≢ []))) }
 {
-    let mut records = Records::new(firings.alloc(), bytes);
+    let mut records = records_of(firings.alloc(), bytes);
     let mut fields = ByteRecord::new(firings.alloc());
-    if !records.read(&mut fields)? {
+    if !read_record(&mut records, &mut fields)? {
         return Ok(false);
     }
     if !is_header(&fields) {
@@ -101,11 +101,6 @@ pub fn read_trace(alloc: Global, bytes: &[u8]) -> Result<Trace, TraceFault>
     ensures { Gives result (trace_of bytes.now) }
 {
     let mut firings = FiringsBuilder::new(alloc, HashKey::of_seed(&[]))?;
-    match read_whole(&mut firings, bytes) {
-        Ok(()) => Ok(Trace::of(firings.finish())),
-        Err(fault) => {
-            drop(firings);
-            Err(fault)
-        }
-    }
+    read_whole(&mut firings, bytes)?;
+    Ok(Trace::of(firings.finish()))
 }

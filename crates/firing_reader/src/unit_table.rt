@@ -2,7 +2,8 @@
 
 ghost use Rattle.std.specs.Prelude.{◌≡◌, ◌<◌, ◌++◌, ◌∷◌, [], true, ℕ, List, IfOk, IfSome};
 ghost use Rattle.std.specs.Prelude.{MatchOption, Some, length, slice_get, vec_capacity, vec_len};
-ghost use Rattle.firings.specs.Stored.{AreIndices, Extends};
+ghost use Rattle.firings.specs.Stored.{AreIndices};
+ghost use Rattle.firing_reader.specs.Steps.Stored.{Gains, IsUnitOf};
 
 use crate::slots::{NEAR, NOWHERE, Slots};
 use firings::{Entry, Known, Units};
@@ -122,8 +123,7 @@ impl<E: PlainEntry> UnitTable<E> {
     // Whether the unit at an index has these bytes, as plain fields or not.
     #[inline(always)]
     fn is_at(&self, index: u32, key: &[u8], plain: bool) -> bool
-        ensures { result ≡ true → (e : E) × (slice_get self.now index ≡ Some (key.now, e))
-            × (plain ≡ true → E.reads e key.now) }
+        ensures { result ≡ true → IsUnitOf E.reads self.now key.now plain index }
     {
         let index = index as usize;
         if index >= self.len() {
@@ -136,8 +136,7 @@ impl<E: PlainEntry> UnitTable<E> {
     // The index of the unit of these bytes and this tag, where it is found.
     #[inline(always)]
     fn find(&self, key: &[u8], plain: bool, tag: u32) -> Option<u32>
-        ensures { IfSome result (λ p. (e : E) × (slice_get self.now p ≡ Some (key.now, e))
-            × (plain ≡ true → E.reads e key.now)) }
+        ensures { IfSome result (IsUnitOf E.reads self.now key.now plain) }
     {
         let slot = self.slots.near(tag, 0);
         if slot.is_of(tag) && self.is_at(slot.index, key, plain) {
@@ -152,8 +151,7 @@ impl<E: PlainEntry> UnitTable<E> {
     // The index of the unit of these bytes and this tag, in the slots after the first.
     #[inline(never)]
     fn find_near(&self, key: &[u8], plain: bool, tag: u32) -> Option<u32>
-        ensures { IfSome result (λ p. (e : E) × (slice_get self.now p ≡ Some (key.now, e))
-            × (plain ≡ true → E.reads e key.now)) }
+        ensures { IfSome result (IsUnitOf E.reads self.now key.now plain) }
     {
         for n in 1..NEAR {
             let slot = self.slots.near(tag, n);
@@ -193,9 +191,7 @@ impl<E: PlainEntry> UnitTable<E> {
     /// The index of the unit that these plain fields write, which is kept if it isn't found.
     #[inline(always)]
     pub(crate) fn read(&mut self, key: &[u8]) -> Option<u32>
-        ensures grows { Extends self.old self.new }
-        ensures index { IfSome result (λ p. (e : E)
-            × (slice_get self.new p ≡ Some (key.now, e)) × E.reads e key.now) }
+        ensures { Gains self.old self.new result (IsUnitOf E.reads self.new key.now true) }
     {
         let tag = self.slots.tag(key);
         match self.find(key, true, tag) {
@@ -208,9 +204,7 @@ impl<E: PlainEntry> UnitTable<E> {
     #[cold]
     #[inline(never)]
     fn add(&mut self, key: &[u8], tag: u32) -> Option<u32>
-        ensures grows { Extends self.old self.new }
-        ensures index { IfSome result (λ p. (e : E)
-            × (slice_get self.new p ≡ Some (key.now, e)) × E.reads e key.now) }
+        ensures { Gains self.old self.new result (IsUnitOf E.reads self.new key.now true) }
     {
         let entry = E::read(key)?;
         self.push(key, true, tag, entry)
@@ -220,8 +214,8 @@ impl<E: PlainEntry> UnitTable<E> {
     /// tell it from others.
     pub(crate) fn keep(&mut self, key: &[u8], entry: E) -> Option<u32>
         requires { E.is_in entry key.now }
-        ensures grows { Extends self.old self.new }
-        ensures index { IfSome result (λ p. slice_get self.new p ≡ Some (key.now, entry)) }
+        ensures { Gains self.old self.new result
+            (λ p. slice_get self.new p ≡ Some (key.now, entry)) }
     {
         let tag = self.slots.tag(key);
         match self.find(key, false, tag) {
@@ -279,8 +273,8 @@ impl<E: PlainEntry> UnitTable<E> {
     // guess first.
     fn index_of_other(&mut self, others: &UnitTable<E>, at: usize, guess: u32) -> Option<u32>
         requires { at < length others.now }
-        ensures grows { Extends self.old self.new }
-        ensures index { IfSome result (λ p. slice_get self.new p ≡ slice_get others.now at) }
+        ensures { Gains self.old self.new result
+            (λ p. slice_get self.new p ≡ slice_get others.now at) }
     {
         let (key, plain, entry) = others.at(at);
         let tag = others.known[at].tag;
@@ -297,8 +291,8 @@ impl<E: PlainEntry> UnitTable<E> {
 
     /// The indices of others, which are kept if they aren't found.
     pub(crate) fn indices_of(&mut self, alloc: Global, others: &UnitTable<E>) -> Option<Vec<u32>>
-        ensures grows { Extends self.old self.new }
-        ensures indices { IfSome result (λ indices. AreIndices self.new indices.items others.now) }
+        ensures { Gains self.old self.new result
+            (λ indices. AreIndices self.new indices.items others.now) }
     {
         let mut indices = Vec::new(alloc);
         let mut guesses = [NOWHERE; TOGETHER];

@@ -2,15 +2,14 @@
 //! firings.
 
 ghost use Rattle.std.specs.Prelude.{◌≡◌, ◌+◌, ◌∷◌, [], IfOk, OnOk, length};
-ghost use Rattle.firing_reader.specs.Blocks.{AreRead, BeginsAtFeed};
+ghost use Rattle.firing_reader.specs.Blocks.{BeginsAtFeed};
 ghost use Rattle.firing_reader.specs.Pieces.{ArePieces, AreWaiting, PassesRows, unread};
 ghost use Rattle.firing_reader.specs.{Plain.BeginsAtEnd, Steps.Pieces.IsAdded};
 
 use crate::builder::FiringsBuilder;
 use crate::fault::TraceFault;
-use crate::pieces::{Cut, Piece, add_pieces, cut_near, no_pieces, read_piece};
+use crate::pieces::{Piece, add_pieces, cut_near, no_pieces, read_piece};
 use crate::whole_rows::{keep_from, read_rows};
-use firings::Firings;
 use keyed_hash::HashKey;
 use std::alloc::{AllocError, Global};
 use std::mem::swap;
@@ -62,22 +61,6 @@ impl Progress {
             left: Vec::new(alloc),
         })
     }
-
-    /// The firings, to which none is added any more.
-    pub(crate) fn finish(self) -> Firings
-        ensures { result ≡ self.firings }
-    {
-        let Progress {
-            firings,
-            waiting,
-            pieces,
-            left,
-        } = self;
-        drop(waiting);
-        drop(pieces);
-        drop(left);
-        firings.finish()
-    }
 }
 
 /// Adds the rows that wait to the firings before them, and reads those that couldn't be read apart.
@@ -85,8 +68,7 @@ pub(crate) fn add_waiting(
     firings: &mut FiringsBuilder,
     waiting: &mut Waiting,
 ) -> Result<(), TraceFault>
-    requires waiting { AreWaiting waiting.old.pieces.items waiting.old.bytes.items }
-    requires are_read { AreRead firings.old }
+    requires { AreWaiting waiting.old.pieces.items waiting.old.bytes.items }
     ensures { IsAdded result firings.old waiting.old.bytes.items
         firings.new waiting.new.bytes.items }
 {
@@ -145,7 +127,6 @@ pub(crate) fn read_pieces<R: Threads>(
 ) -> Result<(), TraceFault>
     requires feed { BeginsAtEnd bytes.now }
     requires waiting { AreWaiting waiting.old.pieces.items waiting.old.bytes.items }
-    requires are_read { AreRead firings.old }
     ensures pieces { ArePieces pieces.new bytes.now }
     ensures added { IsAdded result firings.old waiting.old.bytes.items
         firings.new waiting.new.bytes.items }
@@ -154,7 +135,7 @@ pub(crate) fn read_pieces<R: Threads>(
     let Some((piece, others)) = pieces.split_first_mut() else {
         return add_waiting(firings, waiting);
     };
-    let Cut { front, last } = cut_near(bytes, share.min(bytes.len().saturating_sub(1)));
+    let (front, last) = cut_near(bytes, share.min(bytes.len().saturating_sub(1)));
     let ((), added) = join_mut(
         rt,
         &mut || -> ()
@@ -164,7 +145,7 @@ pub(crate) fn read_pieces<R: Threads>(
             ensures end { piece.exit.now.end + 1 ≡ length front.entry.now }
         { read_piece(piece, front) },
         &mut || -> Result<(), TraceFault>
-            requires { BeginsAtEnd last.now × AreRead firings.now
+            requires { BeginsAtEnd last.now
                 × AreWaiting waiting.now.pieces.items waiting.now.bytes.items }
             ensures others { ArePieces others.exit.now last.entry.now }
             ensures added { IsAdded result firings.entry.now waiting.entry.now.bytes.items

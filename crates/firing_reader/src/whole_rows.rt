@@ -1,7 +1,7 @@
 //! Rows that are whole, at the front of the bytes that are left.
 
 ghost use Rattle.std.specs.Prelude.{◌≡◌, ◌<◌, ◌≤◌, ◌+◌, ◌∷◌, OnOk, drop, length};
-ghost use Rattle.firing_reader.specs.Blocks.{AreRead, BeginsAtFeed};
+ghost use Rattle.firing_reader.specs.Blocks.{BeginsAtFeed};
 ghost use Rattle.firing_reader.specs.{Steps.Blocks.IsReadBy};
 
 use crate::builder::FiringsBuilder;
@@ -12,8 +12,7 @@ use crate::row_ends::end_of_rows;
 
 /// Reads the rows that are whole: plain ones where they lie, from the first other one on by csv.
 pub(crate) fn read_rows(firings: &mut FiringsBuilder, left: &mut Vec<u8>) -> Result<(), TraceFault>
-    requires feed { BeginsAtFeed left.old.items }
-    requires are_read { AreRead firings.old }
+    requires { BeginsAtFeed left.old.items }
     ensures read { IsReadBy result firings.old left.old.items firings.new left.new.items }
     ensures feed { OnOk result (BeginsAtFeed left.new.items) }
 {

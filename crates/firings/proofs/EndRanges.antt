@@ -16,7 +16,7 @@ use Rattle.firings.specs.declared.firing.Firing.{Firing}
 use Rattle.firings.specs.Firings.{HasRanges, IsFiring, IsText, IsTrace, last_number, number_of}
 use Rattle.firings.specs.Firings.{time_of}
 use Rattle.firings.specs.Texts.{text_of}
-use Rattle.firings.specs.Ends.{own_firing, first_time, last_time}
+use Rattle.firings.specs.Ends.{own_firing}
 use Rattle.firings.proofs.Texts.{some_text, empty_text, text_is}
 
 ascii : (bytes : List ℕ) → list_all (λ b. nat_lt b 128) bytes ≡ true → IsAscii bytes
@@ -64,6 +64,12 @@ own_ranges number time name small early text = record {
 }
 
 -- ---- over a trace
+
+abbrev first_time : List Firing → ℕ
+first_time fs = option_map_or time_of (slice_get fs 0) 0
+
+abbrev last_time : List Firing → ℕ
+last_time fs = option_map_or time_of (slice_get fs (length fs - 1)) 0
 
 first_early : (fs : List Firing) → All IsFiring fs → first_time fs < 2 ^ 64
 first_early [] all = omega arith

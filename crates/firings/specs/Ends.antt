@@ -6,13 +6,6 @@ use Rattle.std.specs.Option.{option_map_or}
 use Rattle.firings.specs.declared.firing.Firing.{Firing}
 use Rattle.firings.specs.Firings.{last_number, time_of}
 
--- the time of the first of these firings, and of the last; 0 if there are none
-abbrev pub first_time : List Firing → ℕ
-first_time fs = option_map_or time_of (slice_get fs 0) 0
-
-abbrev pub last_time : List Firing → ℕ
-last_time fs = option_map_or time_of (slice_get fs (length fs - 1)) 0
-
 -- a firing of dreplay's own, on thread 0
 abbrev pub own_firing : ℕ → ℕ → List ℕ → Firing
 own_firing number time name = record {
@@ -29,13 +22,14 @@ own_firing number time name = record {
   args = replicate 10 (pos 0);
 }
 
--- before the rows, at the time of the first
+-- before the rows, at the time of the first, or 0 if there are none
 abbrev pub begin_of : List Firing → Firing
-begin_of trace = own_firing 0 (first_time trace) (codes "BEGIN")
+begin_of trace = own_firing 0 (option_map_or time_of (slice_get trace 0) 0) (codes "BEGIN")
 
 -- after the rows, at the time of the last
 abbrev pub end_of : List Firing → Firing
-end_of trace = own_firing (last_number trace + 1) (last_time trace) (codes "END")
+end_of trace = own_firing (last_number trace + 1)
+    (option_map_or time_of (slice_get trace (length trace - 1)) 0) (codes "END")
 
 -- these firings between BEGIN and END of the trace
 abbrev pub with_ends : (trace firings : List Firing) → List Firing

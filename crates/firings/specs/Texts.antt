@@ -9,5 +9,4 @@ use Rattle.firings.specs.declared.limits.TheConstants.{MAX_TEXT}
 abbrev pub text_of : List ℕ → Option (List ℕ)
 text_of bytes =
     if nat_le (length bytes) MAX_TEXT && not (list_any (λ b. b == 0) bytes) && is_utf8 bytes
-    then Some bytes
-    else None
+    then Some bytes else None

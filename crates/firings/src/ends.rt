@@ -1,8 +1,10 @@
 //! BEGIN and END.
 
-ghost use Rattle.std.specs.Prelude.{◌≡◌, Some};
+ghost use Rattle.std.specs.Prelude.{◌≡◌, ◌-◌, Some, length, slice_get};
+ghost use Rattle.std.specs.Option.{option_map_or};
 ghost use Rattle.firings.specs.Texts.{text_of};
-ghost use Rattle.firings.specs.Ends.{own_firing, begin_of, end_of, first_time, last_time};
+ghost use Rattle.firings.specs.Ends.{own_firing, begin_of, end_of};
+ghost use Rattle.firings.specs.Firings.{time_of};
 
 use crate::firing::{Args, Firing};
 use crate::firings::Firings;
@@ -37,7 +39,7 @@ impl Trace {
 }
 
 fn first_time(firings: &Firings) -> u64
-    ensures { result ≡ first_time firings.now }
+    ensures { result ≡ option_map_or time_of (slice_get firings.now 0) 0 }
 {
     if firings.len() == 0 {
         return 0;
@@ -46,7 +48,8 @@ fn first_time(firings: &Firings) -> u64
 }
 
 fn last_time(firings: &Firings) -> u64
-    ensures { result ≡ last_time firings.now }
+    ensures { result
+        ≡ option_map_or time_of (slice_get firings.now (length firings.now - 1)) 0 }
 {
     if firings.len() == 0 {
         return 0;

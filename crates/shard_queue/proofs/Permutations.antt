@@ -1,14 +1,14 @@
 -- Lists of numbers have the same items exactly where one is the other in some order.
-use Rattle.std.specs.Prelude.{◌≡◌, ◌≢◌, ◌<◌, ◌+◌, ◌↔◌, ℕ, List, [], ◌∷◌, ◌++◌, length, sum_by}
+use Rattle.std.specs.Prelude.{◌≡◌, ◌≢◌, ◌<◌, ◌+◌, ◌↔◌, ℕ, List, [], ◌∷◌, ◌++◌, sum_by}
 use Rattle.std.specs.Prelude.{IsPermutation}
-use Rattle.std.proofs.Common.{refl, sym, ap, ◌∙◌, subst, ⊎_elim, arith}
+use Rattle.std.proofs.Common.{sym, ap, ◌∙◌, subst, ⊎_elim, arith}
 use Rattle.std.proofs.lemmas.Bool.{cases_eq}
 use Rattle.std.proofs.lemmas.List.Sorted.{IsPermutation-cons, IsPermutation-middle}
 use Rattle.std.proofs.lemmas.List.Sorted.{IsPermutation-refl, IsPermutation-sym}
 use Rattle.std.proofs.lemmas.List.Sorted.{IsPermutation-trans, sum_by-IsPermutation}
 use Rattle.std.proofs.lemmas.List.Sums.{sum_by-append, sum_by-cons}
 use Rattle.shard_queue.specs.Numbers.{SameItems}
-use Rattle.shard_queue.proofs.Totals.{sum_by-ones, weight_of, weight_of-other, weight_of-same}
+use Rattle.shard_queue.proofs.Totals.{weight_of, weight_of-other, weight_of-same}
 
 -- what weighs something stands somewhere
 record Stands (x : ℕ) (ys : List ℕ) : Type 0 where

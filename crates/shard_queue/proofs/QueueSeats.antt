@@ -59,10 +59,6 @@ pub sums_more : (queue : GroupQueue) (ss : List QueueSeat) (s : QueueSeat) (all 
 sums_more queue ss s None q at none of one both = subst (λ (ts : List QueueSeat). Sums queue (ts ++ s ∷ []) q) (sym none) (sums_one queue s q at of (one refl))
 sums_more queue ss s (Some p) q at sums of one both = sums_joint queue ss s p q at sums of both
 
-pub sums_pass : (queue : GroupQueue) (ss : List QueueSeat) (all : Option (Pass ℕ QueueView)) → SumsIf queue ss all → IfSome all (IsPassOf queue.queue)
-sums_pass queue ss None sums = tt
-sums_pass queue ss (Some p) sums = sums.pass
-
 -- where every seat was gathered, all that was taken is known
 pub sums_whole : (queue : GroupQueue) (ss : List QueueSeat) (p : Pass ℕ QueueView) → Sums queue ss p → length ss ≡ queue.workers → 0 < queue.workers
     → ((view p).hand.seats ≡ (view p).seats → 0 < (view p).hand.seats → IsHandOut ((view p).hand.end - (view p).seats) (view p).hand.at_end (view p).hand.drawn) → IsHandOut queue.end (queue_seats_at_end ss) (queue_numbers ss)

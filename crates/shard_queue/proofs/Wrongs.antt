@@ -13,8 +13,8 @@ use Rattle.shard_queue.specs.declared.fault.GroupFault.{GroupFault}
 use Rattle.shard_queue.specs.declared.fault.GroupFault.TheVariants.{Missing, Doubled, Stranger}
 use Rattle.shard_queue.specs.Threads.{has}
 use Rattle.shard_queue.specs.Groupings.{list_of, grouping_by_lists, with_own_group}
-use Rattle.shard_queue.specs.Faults.{all_of, first_wrong, first_missing}
-use Rattle.shard_queue.specs.Steps.Faults.{first_unfound}
+use Rattle.shard_queue.specs.Faults.{all_of, first_wrong}
+use Rattle.shard_queue.specs.Steps.Faults.{first_missing, first_unfound}
 use Rattle.shard_queue.specs.Faults.{thread_fault}
 use Rattle.std.proofs.lemmas.List.{take_all, drop_all, get_or_default}
 use Rattle.std.proofs.lemmas.List.Concat.{flat_map-append}

@@ -2,10 +2,13 @@
 use Rattle.std.specs.Prelude.{◌≡◌, ℕ, min, false, List, [], ◌∷◌, ◌+◌, ◌++◌, if◌then◌else◌}
 use Rattle.shard_queue.specs.declared.board.ClaimBoard.{ClaimBoard}
 use Rattle.shard_queue.specs.declared.claim_seat.ClaimSeat.{ClaimSeat}
-use Rattle.shard_queue.specs.Least.{no_number}
+use Rattle.shard_queue.specs.{Hands.Handed, Least.no_number}
 
 abbrev pub IsAt : ClaimBoard → ClaimSeat → Type 0
 IsAt board seat = (seat.seat.table_id ≡ board.table.shared.table_id) × (seat.end ≡ board.end)
+
+abbrev pub claim_handed : ClaimSeat → Handed
+claim_handed seat = record { numbers = seat.taken.items; at_end = seat.at_end }
 
 -- the least number that the seat lowered, 2^64 - 1 without any
 abbrev pub number_lowered : ClaimSeat → ℕ

@@ -18,14 +18,11 @@ first_wrong threads before (t ∷ ts) =
     else if has before t then Some (Doubled t)
     else first_wrong threads (before ++ t ∷ []) ts
 
--- the least thread that is in no list
-abbrev pub first_missing : (threads listed : List ℤ) → Option GroupFault
-first_missing threads listed = option_map Missing (find (λ t. not (has listed t)) threads)
-
--- the first wrong thread of lists, else the least missing one, if these threads fired
+-- the first wrong thread of lists, else the least that is in none of them, if these threads fired
 abbrev pub thread_fault : (threads : List ℤ) → List (List ℤ) → Option GroupFault
 thread_fault threads lists =
-    option_or (first_wrong threads [] (all_of lists)) (first_missing threads (all_of lists))
+    option_or (first_wrong threads [] (all_of lists))
+    (option_map Missing (find (λ t. not (has (all_of lists) t)) threads))
 
 -- the lists group the trace's threads, each in one list
 pub record IsListed (lists : List (List ℤ)) (trace : List Firing) (groups : Grouping) : Type 0 where

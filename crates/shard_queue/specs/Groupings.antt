@@ -1,8 +1,9 @@
 -- Groupings: how many groups there are, and which thread is in which.
-use Rattle.std.specs.Prelude.{◌≡◌, ℕ, suc, ◌+◌, ◌%◌, ◌==◌, ℤ, Bool, false, List, [], ◌∷◌, length}
+use Rattle.std.specs.Prelude.{◌≡◌, ℕ, suc, ◌+◌, ◌%◌, ◌==◌, ℤ, pos, Bool, false, List, []}
+use Rattle.std.specs.Prelude.{◌∷◌, length}
 use Rattle.std.specs.Prelude.{filter, if◌then◌else◌, option_map, Option, Some, None}
 use Rattle.shard_queue.specs.Vocabulary.{Firing, int_eq, position_from}
-use Rattle.shard_queue.specs.Threads.{thread_zero, has, AreThreads}
+use Rattle.shard_queue.specs.Threads.{has, AreThreads}
 
 -- the groups are numbered from 0; a thread that no group has is a stranger
 pub record Grouping : Type 0 where
@@ -13,7 +14,7 @@ pub record Grouping : Type 0 where
 abbrev pub with_own_group : ℕ → (ℤ → Option ℕ) → Grouping
 with_own_group count group = record {
   count = count + 1;
-  group = λ t. if int_eq t thread_zero then Some count else group t;
+  group = λ t. if int_eq t (pos 0) then Some count else group t;
 }
 
 -- dealt into `count` groups: the i-th thread goes to group i modulo count

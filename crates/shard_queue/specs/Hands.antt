@@ -1,5 +1,6 @@
 -- What was handed to the seats of a board or a queue, added up.
-use Rattle.std.specs.Prelude.{◌≡◌, ℕ, ◌+◌, ◌-◌, ◌≤◌, ◌<◌, List, [], ◌∷◌, ◌++◌}
+use Rattle.std.specs.Prelude.{◌≡◌, ℕ, ◌+◌, ◌-◌, ◌≤◌, ◌<◌, Bool, true, false, List, [], ◌∷◌, ◌++◌}
+use Rattle.std.specs.Prelude.{Contains, IfNone, IfSome, IsSome, Option}
 use Rattle.shard_queue.specs.Vocabulary.{Hand, get_elem?, some}
 use Rattle.shard_queue.specs.Numbers.{IsAllBelow}
 
@@ -36,6 +37,19 @@ pub record FitsSeats (n : ℕ) (v : Hand) : Type 0 where
 
 abbrev pub AllFit : ℕ → List Hand → Type 0
 AllFit n views = (by : ℕ) (v : Hand) → get_elem? views by ≡ some v → FitsSeats n v
+
+-- what a seat was handed: these numbers, and whether it was the end
+pub record Handed : Type 0 where
+  pub numbers : List ℕ
+  pub at_end : Bool
+
+-- a seat that isn't at the end is handed a number below it, which it didn't have; or none, and it
+-- is at the end from then on
+pub record IsHanded (end : ℕ) (old new : Handed) (number : Option ℕ) : Type 0 where
+  pub some : IfSome number
+      (λ n. (n < end) × ¬ (Contains old.numbers n) × (new.numbers ≡ old.numbers ++ n ∷ []))
+  pub more : IsSome number → (old.at_end ≡ false) × (new.at_end ≡ false)
+  pub none : IfNone number ((new.at_end ≡ true) × (new.numbers ≡ old.numbers))
 
 -- what was drawn is the numbers below some front, each once: all below n if someone is at the
 -- end

@@ -1,12 +1,15 @@
 -- Which seat is at which queue, and what a list of seats knows.
 use Rattle.std.specs.Prelude.{◌≡◌, ℕ, ◌+◌, ◌++◌, List, [], ◌∷◌, false, if◌then◌else◌}
-use Rattle.shard_queue.specs.Vocabulary.{IsPassOf}
+use Rattle.shard_queue.specs.{Hands.Handed, Vocabulary.IsPassOf}
 use Rattle.shard_queue.specs.declared.queue.GroupQueue.{GroupQueue}
 use Rattle.shard_queue.specs.declared.queue_seat.QueueSeat.{QueueSeat}
 
 abbrev pub IsIn : GroupQueue → QueueSeat → Type 0
 IsIn queue seat =
     IsPassOf queue.queue seat.pass × (seat.end ≡ queue.end) × (seat.workers ≡ queue.workers)
+
+abbrev pub queue_handed : QueueSeat → Handed
+queue_handed seat = record { numbers = seat.taken.items; at_end = seat.at_end }
 
 -- the seat has taken nothing
 abbrev pub IsUnused : QueueSeat → Type 0

@@ -1,10 +1,9 @@
 //! A board of two atomic words: how many claims were made, and the least number that a seat
 //! lowered.
 
-ghost use Rattle.std.specs.Prelude.{◌≡◌, ◌<◌, ◌≤◌, ◌-◌, ◌++◌, ◌∷◌, [], true, false, min, map, All};
-ghost use Rattle.std.specs.Prelude.{vec_len, vec_capacity, Contains, IsSome, IfOk, IfSome, IfNone};
+ghost use Rattle.std.specs.Prelude.{◌≡◌, ◌≤◌, [], true, min, map, All, vec_len, IfOk};
 ghost use Rattle.shard_queue.specs.{BoardRule.view, Least.nothing_lowered};
-ghost use Rattle.shard_queue.specs.Hands.{IsHandOut, hand};
+ghost use Rattle.shard_queue.specs.Hands.{IsHandOut, IsHanded, hand};
 
 use crate::board_rule::{Arrives, Claims, Gathers, Looks, Lowers, OneSeat};
 use crate::claim_seat::ClaimSeat;
@@ -32,9 +31,9 @@ pub struct Closed {
 }
 
 impl ClaimBoard {
-    ghost use Rattle.shard_queue.specs.Boards.{IsAt, IsNew, claim_numbers, claim_seats_at_end};
-    ghost use Rattle.shard_queue.specs.Boards.{least_lowered, least_seen, number_lowered};
-    ghost use Rattle.shard_queue.specs.Boards.{number_seen};
+    ghost use Rattle.shard_queue.specs.Boards.{IsAt, IsNew, claim_handed, claim_numbers};
+    ghost use Rattle.shard_queue.specs.Boards.{claim_seats_at_end, least_lowered, least_seen};
+    ghost use Rattle.shard_queue.specs.Boards.{number_lowered, number_seen};
 
     /// A board of the numbers below `end`, and a seat for each worker. Err if memory was
     /// refused.
@@ -52,34 +51,18 @@ impl ClaimBoard {
         ensures seats { IfOk result
             (λ r. (vec_len r.1 ≡ workers) × All (λ s. IsAt r.0 s × IsNew s) r.1.items) }
     {
-        let (board, rest) = ClaimBoard::start(alloc, end, workers)?;
+        let key = (u64::from(end), workers as u64);
+        let (table, rest) = Table::of_words(alloc, &[0, u64::MAX], &key)?;
+        let board = ClaimBoard {
+            table,
+            end,
+            workers,
+        };
         let seats = board.seats(alloc, rest)?;
         Ok((board, seats))
     }
 
-    // A board with nothing claimed, and the view that counts all its seats.
-    fn start(
-        alloc: Global,
-        end: u32,
-        workers: usize,
-    ) -> Result<(ClaimBoard, Seat<(), BoardView>), AllocError>
-        requires { workers ≤ MAX_WORKERS }
-        ensures board { IfOk result (λ r. (r.0.end ≡ end) × (r.0.workers ≡ workers)) }
-        ensures rest { IfOk result (λ r. (r.1.table_id ≡ r.0.table.shared.table_id)
-            × (r.1.me ≡ (view (hand end workers 0 []) nothing_lowered, []))) }
-    {
-        let key = (u64::from(end), workers as u64);
-        let (table, rest) = Table::of_words(alloc, &[0, u64::MAX], &key)?;
-        Ok((
-            ClaimBoard {
-                table,
-                end,
-                workers,
-            },
-            rest,
-        ))
-    }
-
+    // Splits a seat for each worker off the view that counts all seats.
     fn seats(
         &self,
         alloc: Global,
@@ -94,29 +77,15 @@ impl ClaimBoard {
         let mut seats = Vec::with_capacity(alloc, self.workers)?;
         for _ in 0..self.workers {
             let taken = Vec::with_capacity(alloc, self.end as usize)?;
-            seats.push_reserved(self.seat(&mut rest, taken));
+            let seat = self.table.shared.split_seat::<OneSeat>(&mut rest);
+            seats.push_reserved(ClaimSeat {
+                seat,
+                taken,
+                end: self.end,
+                at_end: false,
+            });
         }
         Ok(seats)
-    }
-
-    // Splits a seat off the view that counts the seats that are left.
-    fn seat(&self, rest: &mut Seat<(), BoardView>, taken: Vec<u32>) -> ClaimSeat
-        requires at { rest.old.table_id ≡ self.now.table.shared.table_id }
-        requires view { let left = rest.old.me.0.hand.seats in
-            (rest.old.me ≡ (view (hand self.now.end left 0 []) nothing_lowered, [])) × (0 < left) }
-        requires room { (taken.items ≡ []) × (self.now.end ≤ vec_capacity taken) }
-        ensures at { rest.new.table_id ≡ self.now.table.shared.table_id }
-        ensures view { rest.new.me
-            ≡ (view (hand self.now.end (rest.old.me.0.hand.seats - 1) 0 []) nothing_lowered, []) }
-        ensures seat { IsAt self.now result × IsNew result }
-    {
-        let seat = self.table.shared.split_seat::<OneSeat>(rest);
-        ClaimSeat {
-            seat,
-            taken,
-            end: self.end,
-            at_end: false,
-        }
     }
 
     /// The next number, which this seat didn't have before, or `None` at the end. A seat that is at
@@ -130,11 +99,8 @@ impl ClaimBoard {
     pub fn claim(&self, seat: &mut ClaimSeat) -> Option<u32>
         requires { IsAt self.now seat.old }
         ensures seat { IsAt self.now seat.new }
-        ensures some { IfSome result (λ g. (g < self.now.end) × ¬ (Contains seat.old.taken.items g)
-            × (seat.new.taken.items ≡ seat.old.taken.items ++ g ∷ [])) }
-        ensures more { IsSome result → (seat.old.at_end ≡ false) × (seat.new.at_end ≡ false) }
-        ensures none { IfNone result
-            ((seat.new.at_end ≡ true) × (seat.new.taken.items ≡ seat.old.taken.items)) }
+        ensures handed { IsHanded self.now.end (claim_handed seat.old) (claim_handed seat.new)
+            result }
         ensures again { seat.old.at_end ≡ true → seat.new ≡ seat.old }
         ensures least { (number_lowered seat.new ≡ number_lowered seat.old)
             × (number_seen seat.new ≡ number_seen seat.old) }
@@ -160,11 +126,9 @@ impl ClaimBoard {
     /// ```
     pub fn lower(&self, seat: &mut ClaimSeat, number: u64)
         requires { IsAt self.now seat.old }
-        ensures seat { IsAt self.now seat.new }
+        ensures seat { IsAt self.now seat.new × (claim_handed seat.new ≡ claim_handed seat.old) }
         ensures lowered { number_lowered seat.new ≡ min (number_lowered seat.old) number }
         ensures seen { number_seen seat.new ≡ number_seen seat.old }
-        ensures others { (seat.new.taken.items ≡ seat.old.taken.items)
-            × (seat.new.at_end ≡ seat.old.at_end) }
     {
         self.table
             .shared
@@ -180,13 +144,11 @@ impl ClaimBoard {
     /// ```
     pub fn least(&self, seat: &mut ClaimSeat) -> u64
         requires { IsAt self.now seat.old }
-        ensures seat { IsAt self.now seat.new }
+        ensures seat { IsAt self.now seat.new × (claim_handed seat.new ≡ claim_handed seat.old) }
         ensures own { result ≤ number_lowered seat.old }
         ensures before { result ≤ number_seen seat.old }
         ensures lowered { number_lowered seat.new ≡ number_lowered seat.old }
         ensures seen { number_seen seat.new ≡ result }
-        ensures others { (seat.new.taken.items ≡ seat.old.taken.items)
-            × (seat.new.at_end ≡ seat.old.at_end) }
     {
         self.table.shared.load::<Looks>(&mut seat.seat, 1)
     }

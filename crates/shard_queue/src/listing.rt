@@ -3,9 +3,9 @@
 ghost use Rattle.std.specs.Prelude.{◌≡◌, ◌<◌, ◌≤◌, ◌+◌, ◌++◌, ◌⊎◌, ℕ, ℤ, false, Some, None, []};
 ghost use Rattle.std.specs.Prelude.{List, map, take, set, length, slice_get, slice_index_or};
 ghost use Rattle.std.specs.Prelude.{is_some, IfOk, OnOk, IfErr, MatchResult};
-ghost use Rattle.shard_queue.specs.Faults.{IsListFault, IsListed, all_of, first_missing};
-ghost use Rattle.shard_queue.specs.Faults.{first_wrong, thread_fault};
-ghost use Rattle.shard_queue.specs.Steps.Faults.{first_unfound};
+ghost use Rattle.shard_queue.specs.Faults.{IsListFault, IsListed, all_of, first_wrong};
+ghost use Rattle.shard_queue.specs.Faults.{thread_fault};
+ghost use Rattle.shard_queue.specs.Steps.Faults.{first_missing, first_unfound};
 ghost use Rattle.shard_queue.specs.{Groupings.list_of};
 ghost use Rattle.shard_queue.specs.Groups.{AreOf, grouping};
 ghost use Rattle.shard_queue.specs.Threads.{has, items_of, run_threads};

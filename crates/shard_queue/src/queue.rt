@@ -1,9 +1,8 @@
 //! A queue of numbers, from which each seat takes. After them comes an end mark for each seat.
 
-ghost use Rattle.std.specs.Prelude.{◌≡◌, ◌<◌, ◌≤◌, ◌+◌, ◌-◌, ◌++◌, ◌∷◌, [], true, false, None};
-ghost use Rattle.std.specs.Prelude.{Some, map, All, Contains, IsSome, IfNone, IfOk, IfSome};
-ghost use Rattle.std.specs.Prelude.{vec_len, vec_capacity};
-ghost use Rattle.shard_queue.specs.Hands.{IsHandOut, hand};
+ghost use Rattle.std.specs.Prelude.{◌≡◌, ◌<◌, ◌≤◌, ◌+◌, [], true, None, Some, map, All, vec_len};
+ghost use Rattle.std.specs.Prelude.{IfOk, IfSome};
+ghost use Rattle.shard_queue.specs.Hands.{IsHandOut, IsHanded, hand};
 ghost use Rattle.shard_queue.specs.QueueRule.{among, joint};
 ghost use Rattle.shard_queue.specs.Vocabulary.{IsPassOf, pass_view};
 
@@ -25,7 +24,8 @@ pub struct GroupQueue {
 }
 
 impl GroupQueue {
-    ghost use Rattle.shard_queue.specs.Queues.{IsIn, IsUnused, queue_numbers, queue_seats_at_end};
+    ghost use Rattle.shard_queue.specs.Queues.{IsIn, IsUnused, queue_handed, queue_numbers};
+    ghost use Rattle.shard_queue.specs.Queues.{queue_seats_at_end};
 
     /// A queue of the numbers below `end`, and a seat for each worker. Err if memory was
     /// refused.
@@ -44,33 +44,16 @@ impl GroupQueue {
         ensures seats { IfOk result
             (λ r. (vec_len r.1 ≡ workers) × All (λ s. IsIn r.0 s × IsUnused s) r.1.items) }
     {
-        let (queue, first) = GroupQueue::start(alloc, end, workers)?;
+        let (queue, first) = RuledArrayQueue::ruled(alloc, end as usize + workers as usize)?;
+        let queue = GroupQueue {
+            queue,
+            end,
+            workers,
+        };
         let all = queue.count_seats(first);
         let full = queue.fill(rt, all);
         let seats = queue.seats(alloc, full)?;
         Ok((queue, seats))
-    }
-
-    // A queue with room for all that is put, and the pass of one seat.
-    fn start(
-        alloc: Global,
-        end: u32,
-        workers: u32,
-    ) -> Result<(GroupQueue, Pass<u32, QueueView>), AllocError>
-        requires { (end ≤ MAX_GROUPS + 1) × (0 < workers) × (workers ≤ MAX_WORKERS) }
-        ensures queue { IfOk result (λ r. (r.0.end ≡ end) × (r.0.workers ≡ workers)) }
-        ensures pass { IfOk result
-            (λ r. IsPassOf r.0.queue r.1 × (pass_view r.1 ≡ among 1 (hand 0 1 0 []))) }
-    {
-        let (queue, pass) = RuledArrayQueue::ruled(alloc, end as usize + workers as usize)?;
-        Ok((
-            GroupQueue {
-                queue,
-                end,
-                workers,
-            },
-            pass,
-        ))
     }
 
     // Counts all seats.
@@ -119,24 +102,15 @@ impl GroupQueue {
         for _ in 0..self.workers {
             let taken = Vec::with_capacity(alloc, self.end as usize)?;
             let pass = self.queue.another::<OneSeat>(&mut rest);
-            seats.push_reserved(self.seat(pass, taken));
+            seats.push_reserved(QueueSeat {
+                pass,
+                taken,
+                end: self.end,
+                workers: self.workers,
+                at_end: false,
+            });
         }
         Ok(seats)
-    }
-
-    fn seat(&self, pass: Pass<u32, QueueView>, taken: Vec<u32>) -> QueueSeat
-        requires pass { let seats = self.now.workers in IsPassOf self.now.queue pass
-            × (pass_view pass ≡ among seats (hand (self.now.end + seats) 1 0 [])) }
-        requires room { (taken.items ≡ []) × (self.now.end ≤ vec_capacity taken) }
-        ensures { IsIn self.now result × IsUnused result }
-    {
-        QueueSeat {
-            pass,
-            taken,
-            end: self.end,
-            workers: self.workers,
-            at_end: false,
-        }
     }
 
     /// The next number, which this seat didn't have before, or `None` at the end. `close` says that
@@ -150,11 +124,8 @@ impl GroupQueue {
     pub fn take<R: Wait>(&self, rt: &R, seat: &mut QueueSeat) -> Option<u32>
         requires { IsIn self.now seat.old }
         ensures seat { IsIn self.now seat.new }
-        ensures some { IfSome result (λ g. (g < self.now.end) × ¬ (Contains seat.old.taken.items g)
-            × (seat.new.taken.items ≡ seat.old.taken.items ++ g ∷ [])) }
-        ensures more { IsSome result → (seat.old.at_end ≡ false) × (seat.new.at_end ≡ false) }
-        ensures none { IfNone result
-            ((seat.new.at_end ≡ true) × (seat.new.taken.items ≡ seat.old.taken.items)) }
+        ensures handed { IsHanded self.now.end (queue_handed seat.old) (queue_handed seat.new)
+            result }
         ensures again { seat.old.at_end ≡ true → seat.new ≡ seat.old }
     {
         if seat.at_end {

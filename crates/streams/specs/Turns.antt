@@ -1,7 +1,7 @@
 -- Reading a feed turn by turn, if a turn makes some of the calls that are left.
-use Rattle.std.specs.Prelude.{◌≡◌, ◌⊎◌, ℕ, ◌+◌, ◌<◌, ◌≤◌, Bool, Result, Err, IfOk, MatchBool}
-use Rattle.std.specs.Prelude.{IsTrue, IsFalse, OnOk}
-use Rattle.std.specs.Io.KnownBytes.{IsAtEnd}
+use Rattle.std.specs.Prelude.{◌≡◌, ◌⊎◌, ℕ, ◌+◌, ◌<◌, ◌≤◌, Bool, List, Result, Err, IfOk}
+use Rattle.std.specs.Prelude.{IsTrue, IsFalse, MatchBool, OnOk}
+use Rattle.std.specs.Io.KnownBytes.{Consumes, IsAtEnd}
 use Rattle.streams.specs.declared.reading.ReadFault.{ReadFault}
 use Rattle.streams.specs.declared.reading.ReadFault.TheVariants.{Failed, Memory}
 use Rattle.streams.specs.declared.reading.TheConstants.{MAX_CALLS}
@@ -19,16 +19,19 @@ pub record HasEnded (feed : FeedSeen) : Type 0 where
   pub ended : IsTrue feed.has_ended
   pub nothing_left : IsAtEnd feed.remaining
 
--- A turn makes calls, and returns whether the feed has ended. It fails if a call did, or if
--- there is none left and the feed hasn't ended.
+-- A turn makes calls, does this with the bytes that they give, and returns whether the feed has
+-- ended. It fails if a call did, or if there is none left and the feed hasn't ended.
 pub record IsTurn (old new : FeedSeen) (calls_left calls_left' : ℕ) (result : Result Bool ReadFault)
-    : Type 0 where
+    (Takes : List ℕ → Type 0) : Type 0 where
   pub counted : new.calls + calls_left' ≡ old.calls + calls_left
   pub given : IfOk result (λ ended. MatchBool ended (HasEnded new)
       (GoesOn calls_left' new × (calls_left' < calls_left)))
   pub failed : result ≡ Err Failed
       → IsTrue new.has_failed ⊎ (IsFalse new.has_ended × (calls_left' ≡ 0))
   pub memory : result ≡ Err Memory → IsFalse new.has_failed
+  pub bytes : List ℕ
+  pub gave : Consumes old.remaining new.remaining bytes
+  pub taken : OnOk result (Takes bytes)
 
 -- the feed failed, or had not ended after the most calls
 abbrev pub IsCutShort : (old new : FeedSeen) → Type 0

@@ -8,7 +8,7 @@ pub mod stream;
 pub mod watched;
 pub mod writing;
 
-pub use reading::{Intake, ReadFault, Reading, read_block, read_to_end, take_next};
+pub use reading::{ReadFault, Reading, read_block, take_next};
 pub use stream::{Failed, Feed, Sink};
 pub use watched::Watched;
 pub use writing::{WriteFault, emit, send};

@@ -1,9 +1,7 @@
 //! Reading a feed to its end.
-ghost use Rattle.std.specs.Prelude.{◌≡◌, ◌<◌, ◌++◌, ◌≤◌, ℕ, List, IfErr, IfOk, IfSome, IsFalse};
-ghost use Rattle.std.specs.Prelude.{Ok, OnOk, false, length, take};
-ghost use Rattle.std.specs.Io.KnownBytes.{Consumes};
-ghost use Rattle.streams.specs.Intake.{TakesSome};
-ghost use Rattle.streams.specs.Turns.{GoesOn, IsReading, IsTurn};
+ghost use Rattle.std.specs.Prelude.{◌≡◌, ◌<◌, ◌++◌, ◌≤◌, IfErr, IfOk, Ok, false, length};
+ghost use Rattle.streams.specs.Turns.{GoesOn, IsTurn};
+ghost use Rattle.streams.specs.declared.reading.ReadFault.TheVariants.{Memory};
 
 use crate::stream::Feed;
 use std::alloc::{AllocError, Global};
@@ -18,6 +16,14 @@ pub enum ReadFault {
     /// Memory ran out.
     #[error("out of memory")]
     Memory,
+}
+
+impl From<AllocError> for ReadFault {
+    ghost from_gives = { λ _ e. e ≡ Memory };
+
+    fn from(_e: AllocError) -> ReadFault {
+        ReadFault::Memory
+    }
 }
 
 /// The most calls of `get` that one reading makes.
@@ -44,9 +50,9 @@ impl Reading {
     /// ```
     pub fn new(alloc: Global) -> Result<Reading, ReadFault>
         ensures reading { IfOk result (λ r. r.calls_left ≡ MAX_CALLS) }
-        ensures fault { IfErr result (λ e. e ≡ ReadFault.Memory) }
+        ensures fault { IfErr result (λ e. e ≡ Memory) }
     {
-        let buffer = vec![in alloc; 0u8; ROOM].map_err(|_| ReadFault::Memory)?;
+        let buffer = vec![in alloc; 0u8; ROOM]?;
         Ok(Reading {
             calls_left: MAX_CALLS,
             buffer,
@@ -54,45 +60,19 @@ impl Reading {
     }
 }
 
-/// Takes the bytes that a feed gives, block by block.
-pub trait Intake {
-    // What a block makes of it.
-    ghost takes: { Self → List ℕ → Self → Type 0 };
-
-    /// Takes the next block.
-    ///
-    /// ```text
-    /// let mut bytes = Vec::new(alloc);
-    /// bytes.take(b"1,0,")?;
-    /// bytes.take(b"7")?; // bytes are 1,0,7
-    /// ```
-    fn take(&mut self, block: &[u8]) -> Result<(), AllocError>
-        ensures { OnOk result (takes self.old block.now self.new) };
-}
-
-impl Intake for Vec<u8> {
-    ghost takes = { λ old block new. new.items ≡ old.items ++ block };
-
-    fn take(&mut self, block: &[u8]) -> Result<(), AllocError> {
-        self.extend_from_slice(block)
-    }
-}
-
-/// Takes what one call of a feed gives, and returns whether it has ended.
+/// Adds what one call of a feed gives to a block, and returns whether the feed has ended.
 ///
 /// ```text
-/// take_next(&mut bytes, &mut feed, &mut reading)?; // false, and `bytes` has up to 64 KiB more
+/// take_next(feed, reading, &mut block)?; // false, and the block has up to 64 KiB more
 /// ```
-pub fn take_next<F: Feed, T: Intake>(
-    intake: &mut T,
+pub fn take_next<F: Feed>(
     feed: &mut F,
     reading: &mut Reading,
+    block: &mut Vec<u8>,
 ) -> Result<bool, ReadFault>
     requires { GoesOn reading.old.calls_left (F.seen feed.old) }
-    ensures turn { IsTurn (F.seen feed.old) (F.seen feed.new)
-        reading.old.calls_left reading.new.calls_left result }
-    ensures taken { TakesSome T.takes (F.seen feed.old).remaining (F.seen feed.new).remaining
-        intake.old intake.new result }
+    ensures { IsTurn (F.seen feed.old) (F.seen feed.new) reading.old.calls_left
+        reading.new.calls_left result (λ bytes. block.new.items ≡ block.old.items ++ bytes) }
 {
     if reading.calls_left == 0 {
         return Err(ReadFault::Failed);
@@ -104,7 +84,7 @@ pub fn take_next<F: Feed, T: Intake>(
     if given == 0 {
         return Ok(true);
     }
-    take_given(intake, &reading.buffer, given)?;
+    block.extend_from_slice(&reading.buffer[..given])?;
     Ok(false)
 }
 
@@ -123,16 +103,13 @@ pub fn read_block<F: Feed>(
     enough: usize,
 ) -> Result<bool, ReadFault>
     requires { GoesOn reading.old.calls_left (F.seen feed.old) }
-    ensures turn { IsTurn (F.seen feed.old) (F.seen feed.new)
-        reading.old.calls_left reading.new.calls_left result }
-    ensures bytes { (bytes : List ℕ)
-        × Consumes (F.seen feed.old).remaining (F.seen feed.new).remaining bytes
-        × OnOk result (block.new.items ≡ block.old.items ++ bytes) }
+    ensures turn { IsTurn (F.seen feed.old) (F.seen feed.new) reading.old.calls_left
+        reading.new.calls_left result (λ bytes. block.new.items ≡ block.old.items ++ bytes) }
     ensures enough { result ≡ Ok false → enough ≤ length block.new.items }
 {
     while reading.calls_left > 0 {
         let from = block.len();
-        if take_next(block, feed, reading)? {
+        if take_next(feed, reading, block)? {
             return Ok(true);
         }
         if block.len() >= enough && ends_line(block, from) {
@@ -150,35 +127,4 @@ fn ends_line(bytes: &[u8], from: usize) -> bool {
         }
     }
     false
-}
-
-// Takes the first `given` bytes of a buffer.
-fn take_given<T: Intake>(intake: &mut T, buffer: &[u8], given: usize) -> Result<(), ReadFault>
-    requires { given ≤ length buffer.now }
-    ensures taken { OnOk result (T.takes intake.old (take given buffer.now) intake.new) }
-    ensures fault { IfErr result (λ e. e ≡ ReadFault.Memory) }
-{
-    let taken = intake.take(&buffer[..given]);
-    taken.map_err(|_| ReadFault::Memory)
-}
-
-/// Reads all bytes that the feed has left. At a fault a beginning of them was read and is lost.
-///
-/// ```text
-/// let mut feed = Watched::new(b"number,cpu\n".as_slice());
-/// let bytes = read_to_end(alloc, &mut feed)?; // `number,cpu` and a line feed
-/// ```
-pub fn read_to_end<F: Feed>(alloc: Global, feed: &mut F) -> Result<Vec<u8>, ReadFault>
-    requires { IsFalse (F.seen feed.old).has_failed }
-    ensures bytes { IfOk result (λ v. IfSome (F.seen feed.old).remaining (λ all. v.items ≡ all)) }
-    ensures reading { IsReading (F.seen feed.old) (F.seen feed.new) result }
-{
-    let mut bytes = Vec::new(alloc);
-    let mut reading = Reading::new(alloc)?;
-    while reading.calls_left > 0 {
-        if take_next(&mut bytes, feed, &mut reading)? {
-            return Ok(bytes);
-        }
-    }
-    Err(ReadFault::Failed)
 }

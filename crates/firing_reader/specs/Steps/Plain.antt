@@ -1,6 +1,6 @@
 -- Plain fields and rows as they are taken off the front of the bytes.
 use Rattle.std.specs.Prelude.{◌≡◌, ◌≢◌, ◌<◌, ◌≤◌, ℕ, List, [], ◌∷◌, ◌++◌, All, Option, Some, map}
-use Rattle.std.specs.Prelude.{ℤ, ◌^◌}
+use Rattle.std.specs.Prelude.{ℤ, ◌^◌, length, take}
 use Rattle.csv.specs.declared.parser.State.{State}
 use Rattle.firing_reader.specs.Vocabulary.{next_record, default_config}
 use Rattle.firing_reader.specs.Plain.{IsEnd, Passes, state_after}
@@ -9,6 +9,10 @@ use Rattle.firing_reader.specs.Column.{number_from, signed_of}
 -- a byte that only joins a field: no comma, quote, carriage return or line feed
 abbrev pub JoinsField : ℕ → Type 0
 JoinsField b = (b ≢ 44) × (b ≢ 34) × (b ≢ 13) × (b ≢ 10)
+
+-- there are so many bytes, and this holds of each of the first ones
+abbrev pub AreFirst : (ℕ → Type 0) → List ℕ → (count : ℕ) → Type 0
+AreFirst Holds bytes count = (count ≤ length bytes) × All Holds (take count bytes)
 
 -- the bytes begin with this field
 pub record BeginsWith (bytes field rest : List ℕ) : Type 0 where

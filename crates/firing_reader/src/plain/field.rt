@@ -72,50 +72,20 @@ pub(crate) fn int(bytes: &[u8], least: u64) -> Option<(i32, &[u8])>
     Some((number as i32, rest))
 }
 
-// A text that a comma ends.
+// A text that a comma ends. Of a short one in ASCII no byte needs a further look.
 pub(crate) fn text(bytes: &[u8]) -> Option<(Text, &[u8])>
     ensures { IfSome result (λ p. BeginsAs text_of bytes.now p.0 (44 ∷ p.1.now)) }
 {
-    match word(bytes) {
-        Some(found) => Some(found),
-        None => any_text(bytes),
-    }
-}
-
-// A short text in ASCII that a comma ends: no byte of it needs a further look.
-fn word(bytes: &[u8]) -> Option<(Text, &[u8])>
-    ensures { IfSome result (λ p. BeginsAs text_of bytes.now p.0 (44 ∷ p.1.now)) }
-{
     let count = word_front(bytes);
-    if count > MAX_TEXT {
-        return None;
+    if count <= MAX_TEXT
+        && let Some(rest) = after_comma(rest_after(bytes, count))
+    {
+        return Some((Text::of(&bytes[..count]), rest));
     }
-    let rest = after_comma(rest_after(bytes, count))?;
-    Some((Text::of(&bytes[..count]), rest))
-}
-
-// Any text that a comma ends.
-#[cold]
-#[inline(never)]
-fn any_text(bytes: &[u8]) -> Option<(Text, &[u8])>
-    ensures { IfSome result (λ p. BeginsAs text_of bytes.now p.0 (44 ∷ p.1.now)) }
-{
     let count = front(bytes);
     let rest = after_comma(rest_after(bytes, count))?;
     let text = Text::from_bytes(&bytes[..count])?;
     Some((text, rest))
-}
-
-// An argument without a minus.
-#[inline(always)]
-fn above_zero(bytes: &[u8]) -> Option<(i64, &[u8])>
-    ensures { IfSome result (λ p. BeginsAs signed_of bytes.now p.0 p.1.now) }
-{
-    let (number, count) = digits(bytes)?;
-    if number > i64::MAX as u64 {
-        return None;
-    }
-    Some((number as i64, rest_after(bytes, count)))
 }
 
 // An argument whose minus comes before these bytes.
@@ -136,10 +106,14 @@ fn below_zero(bytes: &[u8]) -> Option<(i64, &[u8])>
 fn argument(bytes: &[u8]) -> Option<(i64, &[u8])>
     ensures { IfSome result (λ p. BeginsAs signed_of bytes.now p.0 p.1.now) }
 {
-    match after_minus(bytes) {
-        Some(rest) => below_zero(rest),
-        None => above_zero(bytes),
+    if let Some(rest) = after_minus(bytes) {
+        return below_zero(rest);
     }
+    let (number, count) = digits(bytes)?;
+    if number > i64::MAX as u64 {
+        return None;
+    }
+    Some((number as i64, rest_after(bytes, count)))
 }
 
 // An argument that a comma ends. Most are 0.

@@ -3,7 +3,7 @@
 ghost use Rattle.std.specs.Prelude.{◌≡◌, ◌≤◌, ◌∷◌, ◌++◌, true, false, ℕ, List, All, IfSome, length};
 ghost use Rattle.std.specs.Prelude.{take};
 ghost use Rattle.firing_reader.specs.Plain.{BeginsAtEnd, IsEnd};
-ghost use Rattle.firing_reader.specs.Steps.Plain.{IsWordByte, JoinsField};
+ghost use Rattle.firing_reader.specs.Steps.Plain.{AreFirst, IsWordByte, JoinsField};
 
 // What comes after a comma.
 pub(crate) fn after_comma(bytes: &[u8]) -> Option<&[u8]>
@@ -67,8 +67,7 @@ fn after_empty_lines(bytes: &[u8]) -> &[u8]
 
 /// How many bytes at the front end rows.
 pub(crate) fn ends_at(bytes: &[u8]) -> usize
-    ensures count { result ≤ length bytes.now }
-    ensures ends { All IsEnd (take result bytes.now) }
+    ensures { AreFirst IsEnd bytes.now result }
 {
     for at in 0..bytes.len() {
         if !is_end(bytes[at]) {
@@ -95,8 +94,7 @@ fn is_mark(b: u8) -> bool
 
 // How many bytes come before the first mark.
 pub(crate) fn front(bytes: &[u8]) -> usize
-    ensures count { result ≤ length bytes.now }
-    ensures joins { All JoinsField (take result bytes.now) }
+    ensures { AreFirst JoinsField bytes.now result }
 {
     for at in 0..bytes.len() {
         if is_mark(bytes[at]) {
@@ -115,8 +113,7 @@ fn is_word_byte(b: u8) -> bool
 
 // How many bytes at the front are in ASCII, from the minus on.
 pub(crate) fn word_front(bytes: &[u8]) -> usize
-    ensures count { result ≤ length bytes.now }
-    ensures words { All IsWordByte (take result bytes.now) }
+    ensures { AreFirst IsWordByte bytes.now result }
 {
     for at in 0..bytes.len() {
         if !is_word_byte(bytes[at]) {

@@ -9,8 +9,7 @@ ghost use Rattle.firings.specs.Units.{owner_in, probe_in};
 use super::arguments::read_arguments;
 use super::field::{int, whole};
 use super::front::{after_ends, starts_with_digit};
-use crate::owners::read_owner;
-use crate::probes::read_probe;
+use super::unit::{end_of_four, end_of_three};
 use crate::unit_table::UnitTable;
 use firings::{OwnerEntry, ProbeEntry, Row};
 
@@ -24,8 +23,8 @@ pub(crate) fn row<'a>(
     bytes: &'a [u8],
     last: u64,
 ) -> Option<(Row, &'a [u8])>
-    ensures owners { Extends (map owner_in owners.old) (map owner_in owners.new) }
-    ensures probes { Extends (map probe_in probes.old) (map probe_in probes.new) }
+    ensures owners { Extends owners.old owners.new }
+    ensures probes { Extends probes.old probes.new }
     ensures args { Extends args.old.items args.new.items }
     ensures inside { IfSome result (λ p. IsRowIn (map owner_in owners.new)
         (map probe_in probes.new) args.new.items p.0) }
@@ -35,9 +34,11 @@ pub(crate) fn row<'a>(
 {
     let (number, rest) = number_above(bytes, last)?;
     let (cpu, rest) = int(rest, 0)?;
-    let (owner, rest) = read_owner(owners, rest)?;
+    let (key, rest) = rest.split_at(end_of_three(rest));
+    let owner = owners.read(key)?;
     let (time, rest) = whole(rest, 0, u64::MAX)?;
-    let (probe, rest) = read_probe(probes, rest)?;
+    let (key, rest) = rest.split_at(end_of_four(rest));
+    let probe = probes.read(key)?;
     let (given, rest) = read_arguments(args, rest)?;
     let row = Row {
         number,

@@ -26,7 +26,7 @@ pub(crate) fn end_of_three(bytes: &[u8]) -> usize
             return end;
         }
     }
-    end_after(bytes, 3)
+    end_after(bytes, 3).min(bytes.len())
 }
 
 /// How many bytes there are up to and including the fourth comma; 0 if there are fewer commas.
@@ -44,15 +44,13 @@ pub(crate) fn end_of_four(bytes: &[u8]) -> usize
             return end;
         }
     }
-    end_after(bytes, 4)
+    end_after(bytes, 4).min(bytes.len())
 }
 
 // How many bytes there are up to and including this comma, looked for byte by byte.
 #[cold]
 #[inline(never)]
-fn end_after(bytes: &[u8], commas: u32) -> usize
-    ensures { result ≤ length bytes.now }
-{
+fn end_after(bytes: &[u8], commas: u32) -> usize {
     let mut left = commas;
     for at in 0..bytes.len() {
         if bytes[at] == COMMA {

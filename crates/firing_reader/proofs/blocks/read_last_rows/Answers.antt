@@ -1,8 +1,7 @@
 use Rattle.std.proofs.Common.{◌∙◌, inl, refl}
 use Rattle.std.proofs.lemmas.Result.{err_from_is_err_and}
-use Rattle.firing_reader.proofs.Kept.{rows_few}
 use Rattle.firing_reader.proofs.PlainRows.{goes_all}
-use Rattle.firing_reader.proofs.WaitingRows.{adds_goes, adds_read, fault_last}
+use Rattle.firing_reader.proofs.WaitingRows.{adds_goes, fault_last}
 use Rattle.firing_reader.proofs.blocks.read_last_rows.Goals as goal
 
 pub returns-in_err-add_waiting : goal.returns-in_err-add_waiting
@@ -11,11 +10,8 @@ returns-in_err-add_waiting c =
     let old = c.args.progress.now in
     rw (p.1, p.2) (fault_last c.in_err-add_waiting.field-0.0 old.firings old.waiting.bytes.items old.left.items c.in_err-add_waiting.ensures)
 
-pub read_plain-passed-requires-clause-few : goal.read_plain-passed-requires-clause-few
-read_plain-passed-requires-clause-few c = let (rows, read) = adds_read _ _ _ _ c.in_ok-add_waiting.ensures c.requires.1.1 in rows_few rows _ read
-
-pub read_by_csv-requires-clause-begins : goal.read_by_csv-requires-clause-begins
-read_by_csv-requires-clause-begins c = (10, _, c.deref-2.ensures.value ∙ c.keep_from.ensures, inl refl)
+pub read_by_csv-requires : goal.read_by_csv-requires
+read_by_csv-requires c = (10, _, c.deref-2.ensures.value ∙ c.keep_from.ensures, inl refl)
 
 pub returns : goal.returns
 returns c =

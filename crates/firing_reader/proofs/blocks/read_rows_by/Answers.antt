@@ -1,7 +1,7 @@
 use Rattle.std.proofs.Common.{◌≤◌, length, arith}
 use Rattle.std.proofs.lemmas.Result.{err_from_is_err_and}
 use Rattle.firing_reader.proofs.BlockSteps.{read_after}
-use Rattle.firing_reader.proofs.WaitingRows.{adds_goes, adds_leads, adds_read, fault_waiting, keeps_left}
+use Rattle.firing_reader.proofs.WaitingRows.{adds_goes, adds_leads, fault_waiting, keeps_left}
 use Rattle.firing_reader.proofs.blocks.read_rows_by.Goals as goal
 
 pub returns-in_err-read_pieces-clause-read : goal.returns-in_err-read_pieces-clause-read
@@ -17,11 +17,8 @@ returns-then-len-le1-clause-read g c =
     let waits = keeps_left c.read_pieces.new.waiting.bytes.items left few (adds_leads _ _ _ _ added) c.requires.0 in
     rw (c.keep_waiting.ensures.waiting, c.in_ok-keep_waiting.ensures.left, ← waits) (adds_goes _ _ _ _ left added)
 
-pub read_rows-requires-clause-feed : goal.read_rows-requires-clause-feed
-read_rows-requires-clause-feed g c = rw c.in_ok-give_back.ensures.left (adds_leads _ _ _ _ c.in_ok-read_pieces.ensures.added c.args.progress.now.left.items c.requires.0)
-
-pub read_rows-requires-clause-are_read : goal.read_rows-requires-clause-are_read
-read_rows-requires-clause-are_read g c = adds_read _ _ _ _ c.in_ok-read_pieces.ensures.added c.requires.1.1
+pub read_rows-requires : goal.read_rows-requires
+read_rows-requires g c = rw c.in_ok-give_back.ensures.left (adds_leads _ _ _ _ c.in_ok-read_pieces.ensures.added c.args.progress.now.left.items c.requires.0)
 
 pub returns-clause-read : goal.returns-clause-read
 returns-clause-read g c =

@@ -3,7 +3,7 @@ use Rattle.std.proofs.lemmas.Int.{to_z-of_z}
 use Rattle.firings.specs.declared.unit.OwnerEntry.{OwnerEntry}
 use Rattle.firing_reader.specs.Steps.Stored.{owner_of}
 use Rattle.firings.specs.Units.{owner_in}
-use Rattle.firing_reader.proofs.Shared.{part_first, part_text, seen_extends, seen_kept}
+use Rattle.firing_reader.proofs.Shared.{part_first, part_text, seen_kept}
 use Rattle.firing_reader.proofs.owners.keep_owner.Goals as goal
 
 pub keep-requires : goal.keep-requires
@@ -13,11 +13,8 @@ keep-requires c =
     let (numbers, is) = c.in_ok-bytes.ensures in
     rw c.deref.ensures.value (part_text bytes 0 c.count.result name (part_first bytes name numbers c.count.result is c.count.ensures.value c.count.ensures.text))
 
-pub returns-clause-grows : goal.returns-clause-grows
-returns-clause-grows c = seen_extends owner_in c.args.owners.now c.keep.new.self c.keep.ensures.grows
-
-pub returns-clause-index : goal.returns-clause-index
-returns-clause-index c =
+pub returns : goal.returns
+returns c =
     let bytes = c.in_ok-bytes.bytes.items in
     let name = c.args.firing.now.execname in
     let (numbers, is) = c.in_ok-bytes.ensures in
@@ -25,5 +22,5 @@ returns-clause-index c =
     let o = owner_of c.args.firing.now in
     let own = part_first bytes name numbers c.count.result is c.count.ensures.value c.count.ensures.text in
     let same : owner_in (bytes, e) ≡ o = rw own.is refl in
-    let there = rw (c.deref.ensures.value, to_z-of_z w32 c.args.firing.now.thread (search rules), to_z-of_z w32 c.args.firing.now.pid (search rules)) at c.keep.ensures.index in
-    seen_kept owner_in c.keep.new.self (bytes, e) o c.keep.result same there
+    let there = rw (c.deref.ensures.value, to_z-of_z w32 c.args.firing.now.thread (search rules), to_z-of_z w32 c.args.firing.now.pid (search rules)) at c.keep.ensures.1 in
+    (c.keep.ensures.0, seen_kept owner_in c.keep.new.self (bytes, e) o c.keep.result same there)

@@ -4,7 +4,7 @@ use Rattle.firing_reader.proofs.SharedRows.{passes_alone}
 use Rattle.firing_reader.proofs.plain.read_plain.Goals as goal
 
 pub loop-init : goal.loop-init
-loop-init c = record { begins = c.requires.begins; left = leaves_first _ c.requires.begins; read = goes_first _ _; few = omega (arith, c.len-counter.ensures) }
+loop-init c = record { begins = c.requires; left = leaves_first _ c.requires; read = goes_first _ _; few = omega (arith, c.len-counter.ensures) }
 
 pub loop-preserved : goal.loop-preserved
 loop-preserved c =
@@ -18,7 +18,7 @@ loop-preserved c =
     }
 
 pub returns-in_default : goal.returns-in_default
-returns-in_default c = rw c.in_default.ensures (passes_alone c.args.firings.now c.args.bytes.now c.loop.firings c.loop.rest.now c.loop.invariant.left c.loop.invariant.read (omega arith))
+returns-in_default c = rw c.in_default.ensures (passes_alone c.args.firings.now c.args.bytes.now c.loop.firings c.loop.rest.now c.loop.invariant.left c.loop.invariant.read)
 
 pub returns : goal.returns
-returns c = passes_alone c.args.firings.now c.args.bytes.now c.loop.firings c.loop.rest.now c.loop.invariant.left c.loop.invariant.read (omega arith)
+returns c = passes_alone c.args.firings.now c.args.bytes.now c.loop.firings c.loop.rest.now c.loop.invariant.left c.loop.invariant.read

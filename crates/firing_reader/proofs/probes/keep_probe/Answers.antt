@@ -2,7 +2,6 @@ use Rattle.firings.specs.declared.unit.ProbeEntry.{ProbeEntry}
 use Rattle.firings.specs.Probing.{probe_of}
 use Rattle.firings.specs.Units.{probe_in}
 use Rattle.firing_reader.proofs.Shared.{AreLong, AreTexts, probe_is, probe_kept, probe_texts_in}
-use Rattle.firing_reader.proofs.Shared.{seen_extends}
 use Rattle.firing_reader.proofs.Shared.{seen_kept}
 use Rattle.firing_reader.proofs.probes.keep_probe.Goals as goal
 
@@ -15,15 +14,12 @@ keep-requires c =
     let texts : AreTexts p = record { provider = c.count.ensures.text; probemod = c.count-2.ensures.text; probefunc = c.count-3.ensures.text; name = c.count-4.ensures.text } in
     rw c.deref.ensures.value (probe_texts_in bytes e p (probe_kept bytes e p c.in_ok-bytes.ensures long texts))
 
-pub returns-clause-grows : goal.returns-clause-grows
-returns-clause-grows c = seen_extends probe_in c.args.probes.now c.keep.new.self c.keep.ensures.grows
-
-pub returns-clause-index : goal.returns-clause-index
-returns-clause-index c =
+pub returns : goal.returns
+returns c =
     let bytes = c.in_ok-bytes.bytes.items in
     let p = probe_of c.args.firing.now in
     let e : ProbeEntry = record { provider = c.count.result; probemod = c.count-2.result; probefunc = c.count-3.result; name = c.count-4.result } in
     let long : AreLong e p = record { provider = c.count.ensures.value; probemod = c.count-2.ensures.value; probefunc = c.count-3.ensures.value; name = c.count-4.ensures.value } in
     let texts : AreTexts p = record { provider = c.count.ensures.text; probemod = c.count-2.ensures.text; probefunc = c.count-3.ensures.text; name = c.count-4.ensures.text } in
     let same = probe_is bytes e p (probe_kept bytes e p c.in_ok-bytes.ensures long texts) in
-    seen_kept probe_in c.keep.new.self (bytes, e) p c.keep.result same (rw c.deref.ensures.value at c.keep.ensures.index)
+    (c.keep.ensures.0, seen_kept probe_in c.keep.new.self (bytes, e) p c.keep.result same (rw c.deref.ensures.value at c.keep.ensures.1))

@@ -5,4 +5,4 @@ use Rattle.firing_reader.proofs.waiting.+reading.Goals as goal
 pub returns-clause-pieces : goal.returns-clause-pieces
 returns-clause-pieces g t c =
     let cut = c.cut_near.ensures in
-    pieces_cut c.args.bytes.now c.cut_near.result.front.now c.cut_near.result.last.now _ _ cut.cut cut.last (search rules) (search rules) (search rules)
+    pieces_cut c.args.bytes.now c.cut_near.result.0.now c.cut_near.result.1.now _ _ cut.cut cut.last (search rules) (search rules) (search rules)

@@ -1,8 +1,6 @@
 use Rattle.std.proofs.Common.{◌≡◌, ◌≤◌, length, refl, arith, []}
 use Rattle.std.proofs.lemmas.Grind.{common_steps}
 use Rattle.std.proofs.lemmas.List.{nil_from_length}
-use Rattle.firing_reader.proofs.Kept.{rows_few}
-use Rattle.firing_reader.proofs.PlainRows.{goes_rows}
 use Rattle.firing_reader.proofs.WaitingRows.{added_after}
 use Rattle.firing_reader.proofs.waiting.add_waiting.Goals as goal
 
@@ -10,12 +8,6 @@ pub returns-then-is_empty : goal.returns-then-is_empty
 returns-then-is_empty c =
     let none : c.args.waiting.now.bytes.items ≡ [] = nil_from_length _ (grind (arith, common_steps, c.is_empty.ensures, c.if-is_empty.true)) in
     rw none (refl, refl)
-
-pub add_pieces-requires-clause-few : goal.add_pieces-requires-clause-few
-add_pieces-requires-clause-few c = let (rows, read) = c.requires.are_read in rows_few rows c.args.firings.now read
-
-pub read_rows-requires-clause-are_read : goal.read_rows-requires-clause-are_read
-read_rows-requires-clause-are_read c = goes_rows _ _ _ _ c.in-Some.ensures.read c.requires.are_read
 
 pub returns : goal.returns
 returns c =

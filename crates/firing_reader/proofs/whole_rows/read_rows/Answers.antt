@@ -4,14 +4,10 @@ use Rattle.std.proofs.lemmas.Result.{err_from_is_err_and}
 use Rattle.firing_reader.specs.Pieces.{GoesOn}
 use Rattle.firing_reader.specs.Steps.RowEnds.{RowsEnd}
 use Rattle.firing_reader.proofs.BlockSteps.{fault_of_rows, feed_taken, rows_read}
-use Rattle.firing_reader.proofs.Kept.{rows_few}
 use Rattle.firing_reader.proofs.whole_rows.read_rows.Goals as goal
 
-pub read_plain-passed-requires-clause-few : goal.read_plain-passed-requires-clause-few
-read_plain-passed-requires-clause-few c = let (rows, read) = c.requires.are_read in rows_few rows c.args.firings.now read
-
-pub read_by_csv-requires-clause-begins : goal.read_by_csv-requires-clause-begins
-read_by_csv-requires-clause-begins c =
+pub read_by_csv-requires : goal.read_by_csv-requires
+read_by_csv-requires c =
     let r = drop (c.read_plain-passed.result + 1) c.args.left.now.items in
     let e = c.end_of_rows-end.result in
     (10, take e r, ap (take (e + 1)) (c.deref-then-end-gt0.ensures.value ∙ c.keep_from.ensures) ∙ feed_taken r e, inl refl)

@@ -1,25 +1,46 @@
-use Rattle.std.proofs.Common.{arith, rules}
-use Rattle.std.proofs.KnownBytes.{Consumes-trans}
-use Rattle.streams.proofs.Intakes.{vec_more}
+use Rattle.std.proofs.Common.{arith, inr}
+use Rattle.std.proofs.lemmas.Result.{err_from_is_err_and}
+use Rattle.streams.proofs.Readings.{later}
 use Rattle.streams.proofs.reading.read_block.Goals as goal
 
-pub returns-in_err-take_next-clause-bytes : goal.returns-in_err-take_next-clause-bytes
-returns-in_err-take_next-clause-bytes g c =
-    let (bytes, given, added) = c.loop-reading.invariant.added in
-    (_, Consumes-trans _ _ _ _ _ given c.take_next.ensures.taken.given, search rules)
+pub returns-in_err-take_next-clause-turn : goal.returns-in_err-take_next-clause-turn
+returns-in_err-take_next-clause-turn g c =
+    let i = c.loop-reading.invariant in
+    let p = err_from_is_err_and c.from_residual.result c.from_residual.ensures.1 in
+    rw (p.1, p.2) (later _ _ _ _ _ _ _ _ _ _ i.fewer i.counted i.added c.in_err-take_next.ensures)
 
-pub returns-then-branch-clause-bytes : goal.returns-then-branch-clause-bytes
-returns-then-branch-clause-bytes g c = vec_more _ _ _ c.args.block.now c.loop-reading.block c.take_next.new.intake _ c.loop-reading.invariant.added c.in_ok-take_next.ensures.taken
+pub returns-then-branch-clause-turn : goal.returns-then-branch-clause-turn
+returns-then-branch-clause-turn g c =
+    let i = c.loop-reading.invariant in
+    later _ _ _ _ _ _ _ _ _ _ i.fewer i.counted i.added (rw c.if-branch.true at c.in_ok-take_next.ensures)
 
-pub returns-then-ends_line-clause-bytes : goal.returns-then-ends_line-clause-bytes
-returns-then-ends_line-clause-bytes g c = vec_more _ _ _ c.args.block.now c.loop-reading.block c.take_next.new.intake _ c.loop-reading.invariant.added c.in_ok-take_next.ensures.taken
+pub returns-then-ends_line-clause-turn : goal.returns-then-ends_line-clause-turn
+returns-then-ends_line-clause-turn g c =
+    let i = c.loop-reading.invariant in
+    later _ _ _ _ _ _ _ _ _ _ i.fewer i.counted i.added (rw c.if-branch.false at c.in_ok-take_next.ensures)
 
 pub loop-reading-preserved : goal.loop-reading-preserved
 loop-reading-preserved g c =
-    let goes_on = rw c.if-branch.false at c.in_ok-take_next.ensures.turn.given in
+    let i = c.loop-reading.invariant in
+    let turn = rw c.if-branch.false at c.in_ok-take_next.ensures in
+    let whole = later _ (g.F.Feed.seen c.args.feed.now) (g.F.Feed.seen c.loop-reading.feed) _ _ _ _ c.args.block.now.items _ _ i.fewer i.counted i.added turn in
     record {
-      going = goes_on.0;
-      counted = omega (arith, c.take_next.ensures.turn.counted, c.loop-reading.invariant.counted);
-      fewer = omega (arith, goes_on.1, c.loop-reading.invariant.fewer);
-      added = vec_more _ _ _ c.args.block.now c.loop-reading.block c.take_next.new.intake _ c.loop-reading.invariant.added c.in_ok-take_next.ensures.taken;
+      going = turn.given.0;
+      counted = whole.counted;
+      fewer = omega (arith, turn.given.1, i.fewer);
+      added = (whole.bytes, whole.gave, whole.taken);
+    }
+
+pub returns-clause-turn : goal.returns-clause-turn
+returns-clause-turn g c =
+    let i = c.loop-reading.invariant in
+    let (bytes, gave, is) = i.added in
+    record {
+      counted = i.counted;
+      given = tt;
+      failed = λ e. inr (i.going.goes_on (omega arith), omega arith);
+      memory = λ e. cc;
+      bytes = bytes;
+      gave = gave;
+      taken = tt;
     }

@@ -6,23 +6,13 @@ use Rattle.firings.specs.declared.unit.OwnerEntry.{OwnerEntry}
 use Rattle.firing_reader.proofs.Shared.{owner_parsed}
 use Rattle.firing_reader.proofs.owners.OwnerEntryPlainEntry.read.Goals as goal
 
-pub returns-clause-inside : goal.returns-clause-inside
-returns-clause-inside c =
+pub returns : goal.returns
+returns c =
     let (x3, f3, s3) = c.in_ok-thread.ensures in
     let (x4, f4, s4) = c.in_ok-pid.ensures in
     let e : OwnerEntry = record { thread = c.in_ok-thread.thread; pid = c.in_ok-pid.pid; from = c.saturating_sub-from.result; count = c.count.result } in
     let empty : c.is_empty.result ≡ true = search rules in
     let none : c.in_ok-execname.rest.now ≡ [] = nil_from_length _ (eqb-true _ _ (sym c.is_empty.ensures ∙ empty)) in
-    (owner_parsed c.args.key.now c.in_ok-thread.rest.now c.in_ok-pid.rest.now c.in_ok-execname.rest.now e c.in_ok-execname.execname (x3, f3, search (rules, s3)) (x4, f4, search (rules, s4)) c.in_ok-execname.ensures
-    (search rules) c.count.ensures.value none).0
-
-pub returns-clause-reads : goal.returns-clause-reads
-returns-clause-reads c =
-    let (x3, f3, s3) = c.in_ok-thread.ensures in
-    let (x4, f4, s4) = c.in_ok-pid.ensures in
-    let e : OwnerEntry = record { thread = c.in_ok-thread.thread; pid = c.in_ok-pid.pid; from = c.saturating_sub-from.result; count = c.count.result } in
-    let empty : c.is_empty.result ≡ true = search rules in
-    let none : c.in_ok-execname.rest.now ≡ [] = nil_from_length _ (eqb-true _ _ (sym c.is_empty.ensures ∙ empty)) in
-    rw (to_z-of_z w32 c.in_ok-thread.thread (search rules), to_z-of_z w32 c.in_ok-pid.pid (search rules))
-    (owner_parsed c.args.key.now c.in_ok-thread.rest.now c.in_ok-pid.rest.now c.in_ok-execname.rest.now e c.in_ok-execname.execname (x3, f3, search (rules, s3)) (x4, f4, search (rules, s4)) c.in_ok-execname.ensures
-    (search rules) c.count.ensures.value none).1
+    let (inside, reads) = owner_parsed c.args.key.now c.in_ok-thread.rest.now c.in_ok-pid.rest.now c.in_ok-execname.rest.now e c.in_ok-execname.execname (x3, f3, search (rules, s3)) (x4, f4, search (rules, s4)) c.in_ok-execname.ensures
+    (search rules) c.count.ensures.value none in
+    record { inside = inside; reads = rw (to_z-of_z w32 c.in_ok-thread.thread (search rules), to_z-of_z w32 c.in_ok-pid.pid (search rules)) reads }

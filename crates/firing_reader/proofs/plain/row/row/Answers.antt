@@ -1,23 +1,26 @@
-use Rattle.std.proofs.Common.{map, rules, w32}
+use Rattle.std.proofs.Common.{map, refl, rules, w32}
 use Rattle.std.proofs.lemmas.Int.{to_z-of_z}
 use Rattle.firings.specs.declared.stored_row.Row.{Row}
 use Rattle.firings.specs.Units.{owner_in, probe_in}
+use Rattle.firings.proofs.Stored.{seen_at}
 use Rattle.firing_reader.proofs.RowParts.{row_in, row_parts}
+use Rattle.firing_reader.proofs.Shared.{owner_read, probe_read}
 use Rattle.firing_reader.proofs.plain.row.row.Goals as goal
 
-pub returns-clause-inside : goal.returns-clause-inside
-returns-clause-inside c =
+pub returns : goal.returns
+returns c =
     let r : Row = record { number = c.in_ok-number.number; time = c.in_ok-time.time; cpu = c.in_ok-cpu.cpu; owner = c.in_ok-owner.owner; probe = c.in_ok-probe.probe; given = c.in_ok-given.given } in
-    let (o, at_o, reads_o) = c.in_ok-owner.ensures.owner in
-    let (p, at_p, reads_p) = c.in_ok-probe.ensures.probe in
-    rw (to_z-of_z w32 c.in_ok-cpu.cpu (search rules)) (row_in (map owner_in c.read_owner.new.owners) (map probe_in c.read_probe.new.probes) c.read_arguments.new.all.items r o p at_o at_p c.in_ok-given.ensures.inside)
-
-pub returns-clause-row : goal.returns-clause-row
-returns-clause-row c =
-    let r : Row = record { number = c.in_ok-number.number; time = c.in_ok-time.time; cpu = c.in_ok-cpu.cpu; owner = c.in_ok-owner.owner; probe = c.in_ok-probe.probe; given = c.in_ok-given.given } in
-    let (o, at_o, reads_o) = c.in_ok-owner.ensures.owner in
-    let (p, at_p, reads_p) = c.in_ok-probe.ensures.probe in
-    let done = row_parts c.args.bytes.now c.in_ok-number.rest.now c.in_ok-cpu.rest.now c.in_ok-owner.rest.now c.in_ok-time.rest.now c.in_ok-probe.rest.now c.in_ok-given.rest.now
-    (map owner_in c.read_owner.new.owners) (map probe_in c.read_probe.new.probes) c.read_arguments.new.all.items r o p c.in_ok-number.ensures.begins c.in_ok-cpu.ensures at_o reads_o c.in_ok-time.ensures.value at_p reads_p
-    c.in_ok-given.ensures.args in
-    rw (to_z-of_z w32 c.in_ok-cpu.cpu (search rules)) done
+    let (o, there, reads) = c.in_ok-owner.ensures.1 in
+    let (p, fires, names) = c.in_ok-probe.ensures.1 in
+    let at_o = seen_at owner_in c.read.new.self c.in_ok-owner.owner (c.split_at.result.0.now, o) there in
+    let at_p = seen_at probe_in c.read-2.new.self c.in_ok-probe.probe (c.split_at-2.result.0.now, p) fires in
+    record {
+      owners = c.read.ensures.0;
+      probes = c.read-2.ensures.0;
+      args = c.read_arguments.ensures.grows;
+      inside = rw (to_z-of_z w32 c.in_ok-cpu.cpu (search rules)) (row_in (map owner_in c.read.new.self) (map probe_in c.read-2.new.self) c.read_arguments.new.all.items r _ _ at_o at_p c.in_ok-given.ensures.inside);
+      row = rw (to_z-of_z w32 c.in_ok-cpu.cpu (search rules)) (row_parts c.args.bytes.now c.in_ok-number.rest.now c.in_ok-cpu.rest.now c.split_at.result.1.now c.in_ok-time.rest.now c.split_at-2.result.1.now c.in_ok-given.rest.now
+          (map owner_in c.read.new.self) (map probe_in c.read-2.new.self) c.read_arguments.new.all.items r _ _ c.in_ok-number.ensures.begins c.in_ok-cpu.ensures
+          at_o (owner_read _ _ _ _ (reads refl) c.split_at.ensures.by_index.0) c.in_ok-time.ensures.value at_p (probe_read _ _ _ _ (names refl) c.split_at-2.ensures.by_index.0) c.in_ok-given.ensures.args);
+      rises = c.in_ok-number.ensures.rises;
+    }

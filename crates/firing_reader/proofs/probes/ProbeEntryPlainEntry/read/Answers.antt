@@ -8,17 +8,8 @@ use Rattle.firings.specs.declared.unit.Probe.{Probe}
 use Rattle.firing_reader.proofs.Shared.{AreLong, probe_parsed, probe_split, probe_texts_in}
 use Rattle.firing_reader.proofs.probes.ProbeEntryPlainEntry.read.Goals as goal
 
-pub returns-clause-inside : goal.returns-clause-inside
-returns-clause-inside c =
-    let p : Probe = record { provider = c.in_ok-provider.provider; probemod = c.in_ok-probemod.probemod; probefunc = c.in_ok-probefunc.probefunc; name = c.in_ok-name.name } in
-    let e : ProbeEntry = record { provider = c.count.result; probemod = c.count-2.result; probefunc = c.count-3.result; name = c.count-4.result } in
-    let long : AreLong e p = record { provider = c.count.ensures.value; probemod = c.count-2.ensures.value; probefunc = c.count-3.ensures.value; name = c.count-4.ensures.value } in
-    probe_texts_in c.args.key.now e p
-    (probe_split c.args.key.now c.in_ok-provider.rest.now c.in_ok-probemod.rest.now c.in_ok-probefunc.rest.now c.in_ok-name.rest.now e p c.in_ok-provider.ensures c.in_ok-probemod.ensures c.in_ok-probefunc.ensures
-    c.in_ok-name.ensures long)
-
-pub returns-clause-reads : goal.returns-clause-reads
-returns-clause-reads c =
+pub returns : goal.returns
+returns c =
     let p : Probe = record { provider = c.in_ok-provider.provider; probemod = c.in_ok-probemod.probemod; probefunc = c.in_ok-probefunc.probefunc; name = c.in_ok-name.name } in
     let e : ProbeEntry = record { provider = c.count.result; probemod = c.count-2.result; probefunc = c.count-3.result; name = c.count-4.result } in
     let long : AreLong e p = record { provider = c.count.ensures.value; probemod = c.count-2.ensures.value; probefunc = c.count-3.ensures.value; name = c.count-4.ensures.value } in
@@ -27,5 +18,8 @@ returns-clause-reads c =
     let free : bytes_eq c.in_ok-provider.provider (codes "dtrace") ≡ false = search rules in
     let has = probe_split c.args.key.now c.in_ok-provider.rest.now c.in_ok-probemod.rest.now c.in_ok-probefunc.rest.now c.in_ok-name.rest.now e p c.in_ok-provider.ensures c.in_ok-probemod.ensures
     c.in_ok-probefunc.ensures c.in_ok-name.ensures long in
-    probe_parsed c.args.key.now c.in_ok-provider.rest.now c.in_ok-probemod.rest.now c.in_ok-probefunc.rest.now c.in_ok-name.rest.now e p c.in_ok-provider.ensures c.in_ok-probemod.ensures c.in_ok-probefunc.ensures
-    c.in_ok-name.ensures has none free
+    record {
+      inside = probe_texts_in c.args.key.now e p has;
+      reads = probe_parsed c.args.key.now c.in_ok-provider.rest.now c.in_ok-probemod.rest.now c.in_ok-probefunc.rest.now c.in_ok-name.rest.now e p c.in_ok-provider.ensures c.in_ok-probemod.ensures c.in_ok-probefunc.ensures
+          c.in_ok-name.ensures has none free;
+    }

@@ -7,7 +7,8 @@ use Rattle.std.specs.Map.{lookup}
 use Rattle.std.proofs.lemmas.List.{length-map}
 use Rattle.std.proofs.lemmas.Result.{err_from_is_err_and}
 use Rattle.shard_queue.specs.Groupings.{list_of}
-use Rattle.shard_queue.specs.Faults.{all_of, first_wrong, first_missing, thread_fault}
+use Rattle.shard_queue.specs.Faults.{all_of, first_wrong, thread_fault}
+use Rattle.shard_queue.specs.Steps.Faults.{first_missing}
 use Rattle.shard_queue.proofs.Listed.{numbers_below}
 use Rattle.shard_queue.proofs.Wrongs.{thread_fault-right, listed_lookup, listed_is}
 use Rattle.shard_queue.proofs.groups.Groups.from_lists.Goals as goal

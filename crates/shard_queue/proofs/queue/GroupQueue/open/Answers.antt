@@ -1,5 +1,5 @@
 use Rattle.shard_queue.proofs.QueueSteps.{begins}
-use Rattle.shard_queue.proofs.queue.GroupQueue.start.Goals as goal
+use Rattle.shard_queue.proofs.queue.GroupQueue.open.Goals as goal
 
 pub ruled-requires-clause-rule : goal.ruled-requires-clause-rule
-ruled-requires-clause-rule c = begins
+ruled-requires-clause-rule g c = begins

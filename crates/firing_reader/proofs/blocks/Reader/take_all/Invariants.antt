@@ -1,9 +1,0 @@
-use Rattle.std.proofs.Common.{◌≡◌, ◌++◌, ℕ, List, length}
-use Rattle.firing_reader.specs.Blocks.{reads}
-use Rattle.firing_reader.proofs.blocks.Reader.take_all.Given as goal
-
-abbrev pub invariant-loop-left : goal.invariant-loop-left
-invariant-loop-left g l = (rest : List ℕ) → reads l.self (l.left ++ rest) ≡ reads l.initial.self (l.initial.left ++ rest)
-
-abbrev pub decreases-loop-left : goal.decreases-loop-left
-decreases-loop-left g l = length l.left
