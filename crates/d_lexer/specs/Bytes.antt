@@ -1,8 +1,8 @@
 -- Kinds of bytes.
 -- Source: Dynamic Tracing Guide, "Keywords" and "Constants".
 use Rattle.std.specs.Prelude.{ℕ, ◌==◌, nat_le, Bool, false, not, ◌&&◌, ◌||◌, List, [], ◌∷◌, Option}
-use Rattle.std.specs.Prelude.{codes}
-use Rattle.std.specs.{Str.bytes_eq, Str.byte, Map.lookup}
+use Rattle.std.specs.Prelude.{codes, drop, slice_get}
+use Rattle.std.specs.{List.list_any, Map.lookup, Option.option_map_or, Str.byte, Str.bytes_eq}
 use Rattle.std.specs.Char.{is_ascii_alphabetic, is_ascii_alphanumeric}
 
 -- space, tab, line feed, vertical tab, form feed, carriage return
@@ -11,7 +11,7 @@ is_blank_byte b = b == byte " " || (nat_le 9 b && nat_le b 13)
 
 -- a space or a tab
 abbrev pub is_space : ℕ → Bool
-is_space b = b == byte " " || b == 9
+is_space b = b == byte " " || b == byte "\t"
 
 -- a letter or _
 abbrev pub is_word_start : ℕ → Bool
@@ -23,7 +23,7 @@ is_word_byte b = is_ascii_alphanumeric b || b == byte "_"
 
 -- letters, digits and _ . - + : * ?
 abbrev pub is_run_byte : ℕ → Bool
-is_run_byte b = is_word_byte b || b == 46 || b == 45 || b == 43 || b == 58 || b == 42 || b == 63
+is_run_byte b = is_word_byte b || list_any (λ c. b == c) (codes ".-+:*?")
 
 -- a byte of the same line
 abbrev pub is_inside : ℕ → Bool
@@ -31,19 +31,18 @@ is_inside b = not (b == byte "\n")
 
 -- this byte comes next
 abbrev pub next_is : ℕ → List ℕ → Bool
-next_is c [] = false
-next_is c (b ∷ bs) = b == c
+next_is c z = option_map_or (λ b. b == c) (slice_get z 0) false
 
 -- /* comes next
 abbrev pub begins_comment : List ℕ → Bool
-begins_comment [] = false
-begins_comment (b ∷ z) = b == byte "/" && next_is (byte "*") z
+begins_comment z = next_is (byte "/") z && next_is (byte "*") (drop 1 z)
 
--- what may come after a backslash: a b f n r t v \ " ' ?
+-- what may come after a backslash, and the byte that it means there
 abbrev pub escapes : List (ℕ × ℕ)
 escapes =
-    (97, 7) ∷ (98, 8) ∷ (102, 12) ∷ (110, 10) ∷ (114, 13) ∷ (116, 9) ∷ (118, 11)
-    ∷ (92, 92) ∷ (34, 34) ∷ (39, 39) ∷ (63, 63) ∷ []
+    (byte "a", 7) ∷ (byte "b", 8) ∷ (byte "f", 12) ∷ (byte "n", byte "\n")
+    ∷ (byte "r", byte "\r") ∷ (byte "t", byte "\t") ∷ (byte "v", 11) ∷ (byte "\\", byte "\\")
+    ∷ (byte "\"", byte "\"") ∷ (byte "'", byte "'") ∷ (byte "?", byte "?") ∷ []
 
 -- the byte that an escape means
 abbrev pub escape_of : ℕ → Option ℕ

@@ -1,12 +1,12 @@
 -- Option lines.
 -- Source: Dynamic Tracing Guide, "Options and Tunables".
 use Rattle.std.specs.Prelude.{◌≡◌, ℕ, Bool, true, ◌||◌, ◌==◌, List, [], ◌∷◌, ◌++◌, codes}
-use Rattle.std.specs.List.{AllByRecursion}
+use Rattle.std.specs.{List.AllByRecursion, Str.byte}
 use Rattle.d_lexer.specs.Bytes.{is_space}
 
 -- a space, a tab or a carriage return
 abbrev pub is_trailing : ℕ → Bool
-is_trailing b = is_space b || b == 13
+is_trailing b = is_space b || b == byte "\r"
 
 -- ---- the relation
 

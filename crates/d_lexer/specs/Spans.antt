@@ -1,6 +1,7 @@
 -- Where tokens and faults are, by the bytes alone.
 use Rattle.std.specs.Prelude.{◌≡◌, ◌==◌, ℕ, ◌+◌, ◌<◌, ◌≤◌}
 use Rattle.std.specs.Prelude.{List, [], ◌∷◌, ◌++◌, length, count_by}
+use Rattle.std.specs.Str.{byte}
 use Rattle.d_lexer.specs.declared.token.Token.{Token}
 use Rattle.d_lexer.specs.declared.fault.Flaw.{Flaw}
 use Rattle.d_lexer.specs.declared.fault.LexFault.{LexFault}
@@ -8,7 +9,7 @@ use Rattle.d_lexer.specs.Faults.{on_line}
 
 -- the line after these bytes: one more than their line feeds
 abbrev pub line_after : List ℕ → ℕ
-line_after bytes = 1 + count_by (λ b. b == 10) bytes
+line_after bytes = 1 + count_by (λ b. b == byte "\n") bytes
 
 -- the token has bytes of its own, and its start, stop and line are those
 pub record IsInPlace (bytes : List ℕ) (t : Token) : Type 0 where

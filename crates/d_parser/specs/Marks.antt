@@ -33,6 +33,7 @@ mark_and_level (binary.Logic logic.And) = (Mark.AndAnd, AND)
 mark_and_level (binary.Logic logic.Xor) = (Mark.XorXor, XOR)
 mark_and_level (binary.Logic logic.Or) = (Mark.OrOr, OR)
 
+-- `=`, or an operator's mark with `=` after it
 abbrev pub assign_mark : AssignOperator → Mark
 assign_mark assign.Set = Mark.Assign
 assign_mark (assign.Arithmetic arithmetic.Add) = Mark.AddAssign

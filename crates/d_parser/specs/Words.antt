@@ -24,6 +24,7 @@ reserved_words =
 abbrev pub word_kind : List ℕ → WordKind
 word_kind word = unwrap_or (lookup (bytes_eq word) reserved_words) kind.Plain
 
+-- what a token stands for as a word; one that is none spells no type
 abbrev pub word_kind_of : TokenKind → WordKind
 word_kind_of (TokenKind.Word word) = word_kind word
 word_kind_of t = kind.Plain
@@ -43,6 +44,7 @@ widths_of (kind.Long ∷ (kind.Long ∷ [])) = Some (integer.Int64, integer.Uint
 widths_of (kind.Long ∷ (kind.Long ∷ (kind.Int ∷ []))) = Some (integer.Int64, integer.Uint64)
 widths_of others = None
 
+-- `string`, the name of a fixed width, or a sign, a width or both
 abbrev pub type_of : List WordKind → Option DeclaredType
 type_of [] = None
 type_of (kind.Text ∷ []) = Some DeclaredType.Text
@@ -51,5 +53,6 @@ type_of (kind.Signed ∷ width) = option_map (λ both. DeclaredType.Integer both
 type_of (kind.Unsigned ∷ width) = option_map (λ both. DeclaredType.Integer both.1) (widths_of width)
 type_of width = option_map (λ both. DeclaredType.Integer both.0) (widths_of width)
 
+-- the type that these tokens spell
 abbrev pub type_of_words : List Token → Option DeclaredType
 type_of_words words = type_of (map (λ t. word_kind_of t.kind) words)

@@ -24,7 +24,7 @@ use Rattle.d_types.specs.Steps.Variables.{fit}
 use Rattle.d_types.specs.Steps.Aggregations.{is_again}
 use Rattle.d_types.proofs.Tables.{kinds_are, same_kinds}
 use Rattle.d_types.proofs.NewAggregations.{again_is, is_same}
-use Rattle.d_types.specs.Checking.{Known, gives, by_rule, needs, ◌>>=◌, ◌>>◌, evaluated, printed, called, appended, placed, aggregated, IsChecked}
+use Rattle.d_types.specs.Checking.{Known, gives, by_rule, needs, ◌>>=◌, ◌>>◌, printed, called, appended, placed, aggregated, IsChecked}
 use Rattle.d_types.specs.Checking as rules
 use Rattle.d_parser.specs.declared.tree.Constant.TheVariants as literal
 use Rattle.d_types.specs.Formats as formats
@@ -40,7 +40,7 @@ use Rattle.d_types.specs.Steps.Scripts as walk
 use Rattle.d_types.specs.Steps.Statements.{wholes, trace, exit_by, exit, print, evaluate, call_statement, action}
 use Rattle.d_types.specs.Steps.Typing.{only, expr}
 use Rattle.d_types.specs.Steps.Typing as typing
-use Rattle.d_types.specs.Typed.{Typed, Typeds, end, type_of, Action, Evaluate, Trace, Print, Aggregate, Agg, Aggs, ClauseMeant, ScriptMeant}
+use Rattle.d_types.specs.Typed.{Typed, Typeds, end, type_of, types_of, Action, Evaluate, Trace, Print, Aggregate, Agg, Aggs, ClauseMeant, ScriptMeant}
 use Rattle.d_types.specs.TypedScripts.{typed_script_of, IsCheckOf}
 use Rattle.d_types.specs.Variables.{Rows, find, kinds_of_typed}
 use Rattle.d_types.specs.Steps.Variables.{types_in}
@@ -54,6 +54,9 @@ use Rattle.d_types.proofs.Spelling.{read_is_spelled}
 
 -- ---- actions
 
+abbrev evaluated : Tree → rules.Checked Action
+evaluated t = rules.whole t >>= λ x. gives (Evaluate x)
+
 evaluated_decided : (t : Tree) (rows : Rows) (aggs : Aggs) → Decides (evaluated t) (at rows aggs) (answer (with_rows aggs) (evaluate rows t))
 evaluated_decided t rows aggs =
     follows _ _ (at rows aggs) (with_rows aggs) (with_rows aggs) (typing.whole rows t) _ (whole_decided t rows aggs) (λ x e. given (Evaluate x.0) (at x.1 aggs))
@@ -66,10 +69,10 @@ single_fails cause line (Some x) go f h = absurd cc
 trace_decided : (line : ℕ) (ts : Trees) (rows : Rows) (aggs : Aggs) (name : List ℕ) → Decides (called (Some f.Trace) line name ts) (at rows aggs) (answer (with_rows aggs) (trace line rows ts))
 trace_decided line ts rows aggs name =
     follows _ _ (at rows aggs) (with_rows aggs) (with_rows aggs) (wholes end rows ts) _ (wholes_decided ts rows aggs)
-    (λ k e. of_known k.1 aggs (fault.Mismatch line) _ (single_fails cause.Mismatch line (only k.0) (λ x. (Trace x, k.1))) _
+    (λ k e. of_known k.1 aggs (fault.Mismatch line) _ (single_fails cause.Mismatch line (only k.0) (λ x. (Trace (type_of x) x, k.1))) _
     (λ a last h.
     let q = bound (unless cause.Mismatch line (only k.0)) _ _ h in
-    let same : (Trace q.0, k.1) ≡ (a, last) = ok_is _ _ q.2 in
+    let same : (Trace (type_of q.0) q.0, k.1) ≡ (a, last) = ok_is _ _ q.2 in
     ((q.0, only_is k.0 q.0 (is_some_of cause.Mismatch line _ q.0 q.1), sym (ap (λ (p : Action × Rows). p.0) same)), sym (ap (λ (p : Action × Rows). p.1) same)))
     (λ a h. rw (h.1, h.2) refl))
 
@@ -92,11 +95,11 @@ exit_decided line ts rows aggs name =
     (λ a h. rw (h.2, h.3, h.4) refl))
 
 print_fails : (line : ℕ) (o : Option (List Piece)) (xs : Typeds) (rows : Rows) (g : Fault)
-    → and_then {B = Action × Rows} (unless cause.PrintfArguments line o) (λ ps. if formats.fit ps xs then Ok (Print ps xs, rows) else refuse cause.PrintfArguments line) ≡ Err g → type_fault_of g ≡ fault.PrintfArguments line
+    → and_then {B = Action × Rows} (unless cause.PrintfArguments line o) (λ ps. if formats.fit ps xs then Ok (Print ps (types_of xs) xs, rows) else refuse cause.PrintfArguments line) ≡ Err g → type_fault_of g ≡ fault.PrintfArguments line
 print_fails line None xs rows g h = ap type_fault_of (sym (same_fault cause.PrintfArguments line g h))
 print_fails line (Some ps) xs rows g h = by (formats.fit ps xs) h
   where
-    by : (b : Bool) → ◌≡◌ {A = Result (Action × Rows) Fault} (if b then Ok (Print ps xs, rows) else refuse cause.PrintfArguments line) (Err g) → type_fault_of g ≡ fault.PrintfArguments line
+    by : (b : Bool) → ◌≡◌ {A = Result (Action × Rows) Fault} (if b then Ok (Print ps (types_of xs) xs, rows) else refuse cause.PrintfArguments line) (Err g) → type_fault_of g ≡ fault.PrintfArguments line
     by true h = absurd cc
     by false h = ap type_fault_of (sym (same_fault cause.PrintfArguments line g h))
 
@@ -106,7 +109,7 @@ printed_decided line (tree.more (tree.Known index (literal.Text format)) ts) row
     (λ k e. of_known k.1 aggs (fault.PrintfArguments line) _ (print_fails line (pieces format) k.0 k.1) _
     (λ a last h.
     let q = bound (unless cause.PrintfArguments line (pieces format)) _ _ h in
-    let p = within cause.PrintfArguments line (formats.fit q.0 k.0) (Print q.0 k.0, k.1) (a, last) q.2 in
+    let p = within cause.PrintfArguments line (formats.fit q.0 k.0) (Print q.0 (types_of k.0) k.0, k.1) (a, last) q.2 in
     ((q.0, read_is_spelled format q.0 (is_some_of cause.PrintfArguments line _ q.0 q.1), p.0, sym (ap (λ (y : Action × Rows). y.0) p.1)), sym (ap (λ (y : Action × Rows). y.1) p.1)))
     (λ a h. rw (spelled_is_read format h.0 h.1, h.2, h.3) refl))
 printed_decided line ts rows aggs =

@@ -19,7 +19,7 @@ use Rattle.d_types.specs.declared.typed.Space.{Space}
 use Rattle.d_types.specs.declared.typed.Variable.{Variable as Slot}
 use Rattle.d_types.specs.declared.typed.Space.TheVariants as s
 use Rattle.d_types.specs.declared.words.Callee.{Callee}
-use Rattle.d_types.specs.Checking.{by_rule, IsVariable, read_own, read, target, stepped, needs}
+use Rattle.d_types.specs.Checking.{by_rule, IsVariable, read_in, read, target, stepped, needs}
 use Rattle.d_types.specs.Checking.{expression, expressions, whole, wholes, ◌>>◌}
 use Rattle.d_types.specs.Constants.{int_type, constant}
 use Rattle.d_types.specs.Lines.{line_of_variable, line_of}
@@ -71,7 +71,7 @@ plain_read line name rows aggs (Some b) (more x rest) e = got _ _ _ _ b e (λ y 
 
 module _ (space : Space) (line : ℕ) (name : List ℕ) (rows : Rows) (aggs : Aggs) (ks : Typeds) where
   abbrev OwnGives : Result Typed Fault → Type 0
-  OwnGives r = Decides (read_own space line name ks) (at rows aggs) (answer (with_rows aggs) (and_then {B = Typed × Rows} r (λ y. Ok (y, rows))))
+  OwnGives r = Decides (read_in space line name ks) (at rows aggs) (answer (with_rows aggs) (and_then {B = Typed × Rows} r (λ y. Ok (y, rows))))
 
   -- only one variable has this name
   one_own : (slot : ℕ) (t : DType) → find space name rows ≡ Some slot → type_at rows slot ≡ Some t → (y : Slot) → IsVariable space name rows y → y ≡ record { space = space; slot = slot; holds = t }

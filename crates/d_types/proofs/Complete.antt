@@ -18,11 +18,10 @@ use Rattle.d_types.specs.Steps.Typing.{with_typed}
 use Rattle.d_types.specs.Variables.{Rows, find, type_at}
 use Rattle.d_types.proofs.Tables.{own_keys}
 use Rattle.d_types.specs.Steps.Operators.{binary, choice, as_type}
-use Rattle.d_types.specs.Steps.Targets.{read_variable, load_at, target, slot_for, assignment}
-use Rattle.d_types.specs.Steps.Targets.{step}
+use Rattle.d_types.specs.Steps.Targets.{target, slot_for, assignment, step}
 use Rattle.d_types.specs.Steps.Typing.{typed_call}
 use Rattle.d_types.specs.Rules.{IsOperation, IsChoice, IsSlotOf}
-use Rattle.d_types.proofs.WellTyped.{IsLoad, IsRead, IsTargetOf}
+use Rattle.d_types.proofs.WellTyped.{IsTargetOf}
 use Rattle.d_types.specs.Rules.{IsConverted, IsAssignment, IsStep, IsCall}
 
 -- the list after what is done
@@ -48,15 +47,6 @@ joins_complete (bs.Logic op) x y z h = rw (h.2, h.3, h.4) refl
 pub chooses_complete : (x y u z : Typed) → IsChoice x y u z → choice (type_of x) (type_of y) (type_of u) x y u ≡ Some z
 chooses_complete x y u z (inl h) = rw (h.3, h.4, h.5, h.6) refl
 chooses_complete x y u z (inr h) = rw (h.1, h.2, h.3, h.4) refl
-
-loads_complete : (space : Space) (line : ℕ) (name : List ℕ) (rows : Rows) (ks : Typeds) (z : Typed) → IsLoad space name rows ks z →
-    load_at space line rows (find space name rows) ks ≡ Ok z
-loads_complete space line name rows ks z h = rw (h.2, h.3, own_keys rows h.0 ks h.4, h.5) refl
-
-pub reads_complete : (rows : Rows) (x : Variable) (ks : Typeds) (z : Typed) → IsRead rows x ks z → read_variable rows x ks ≡ Ok z
-reads_complete rows (v.Plain line name) ks z h = rw (h.1, h.2, h.3) refl
-reads_complete rows (v.Thread line name) ks z h = loads_complete s.Thread line name rows ks z h
-reads_complete rows (v.Clause line name) ks z h = loads_complete s.Clause line name rows ks z h
 
 indices_complete : (space : Space) (line : ℕ) (name : List ℕ) (rows : Rows) (t : Option DType) (ks : Typeds) (slot : ℕ) (last : Rows) →
     IsSlotOf space name t ks rows slot last → slot_for space line name rows t ks (find space name rows) ≡ Ok (slot, last)

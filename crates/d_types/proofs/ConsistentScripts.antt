@@ -17,7 +17,7 @@ use Rattle.d_types.specs.Constants.{declared_type}
 use Rattle.d_types.specs.Held.{slots_of, IsConsistent}
 use Rattle.d_parser.specs.Numbers.{HasSmall, HaveSmall, InPredicate, InStatement, InStatements}
 use Rattle.d_parser.specs.Numbers.{AreSmall}
-use Rattle.d_types.specs.Constants.{declared_kinds}
+use Rattle.d_types.specs.Steps.Scripts.{declared_kinds}
 use Rattle.d_types.specs.Scripts.{IsMeant}
 use Rattle.d_types.proofs.Checked.{meant_is_walked}
 use Rattle.d_types.proofs.WellTyped.{AllTypes}
@@ -47,8 +47,8 @@ module _ (P Q : Typed → Type 0) (to : (z : Typed) → P z → Q z) where
 
   action_on : (a : Action) → ActionIs P a → ActionIs Q a
   action_on (Evaluate x) h = to x h
-  action_on (Trace x) h = to x h
-  action_on (Print format args) h = each_on args h
+  action_on (Trace t x) h = to x h
+  action_on (Print format types args) h = each_on args h
   action_on (Exit x) h = to x h
   action_on (Aggregate index keys argument) h = (each_on keys h.0, any_on argument h.1)
 

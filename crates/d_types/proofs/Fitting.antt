@@ -13,7 +13,7 @@ use Rattle.d_types.specs.declared.words.Callee.TheVariants as f
 use Rattle.d_types.specs.Steps.Faults.{◌>>=◌, Fault, refuse, unless, Undeclared, Mismatch}
 use Rattle.d_types.specs.Steps.Faults.{NoRegister}
 use Rattle.d_types.specs.Words.{aggregating_named}
-use Rattle.d_types.specs.Typed.{Typed, Typeds, end, more, Action, Evaluate, Trace}
+use Rattle.d_types.specs.Typed.{Typed, Typeds, end, more, type_of, types_of, Action, Evaluate, Trace}
 use Rattle.d_types.specs.Steps.Typing.{with_typed}
 use Rattle.d_types.specs.Typed.{Print, Exit}
 use Rattle.d_types.specs.Typed.{Aggregate, Aggs, ClauseMeant, ScriptMeant}
@@ -89,7 +89,7 @@ trace_fits : (line : ℕ) (rows : Rows) (ts : Trees) (r : Action × Rows) → tr
 trace_fits line rows ts r h =
     let p = bound (wholes end rows ts) _ _ h in
     let q = bound (unless _ line (only p.0.0)) _ _ p.2 in
-    answered (Trace q.0) p.0.1 r q.2 (only_fits p.0.0 q.0 (all_fit rows ts p.0 p.1) (is_some_of _ line _ q.0 q.1))
+    answered (Trace (type_of q.0) q.0) p.0.1 r q.2 (only_fits p.0.0 q.0 (all_fit rows ts p.0 p.1) (is_some_of _ line _ q.0 q.1))
 
 exit_by_fits : (line : ℕ) (t : DType) (x : Typed) (rows : Rows) (r : Action × Rows) → FitsRegisters x → exit_by line t x rows ≡ Ok r → ActionFits r.0
 exit_by_fits line (Int t) x rows r d h = answered (Exit x) rows r h d
@@ -105,7 +105,7 @@ print_with_fits : (line : ℕ) (rows : Rows) (format : List ℕ) (ts : Trees) (r
 print_with_fits line rows format ts r h =
     let p = bound (wholes end rows ts) _ _ h in
     let q = bound (unless _ line (pieces format)) _ _ p.2 in
-    let w = within _ line (fit q.0 p.0.0) (Print q.0 p.0.0, p.0.1) r q.2 in
+    let w = within _ line (fit q.0 p.0.0) (Print q.0 (types_of p.0.0) p.0.0, p.0.1) r q.2 in
     subst (λ (y : Action × Rows). ActionFits y.0) w.1 (all_fit rows ts p.0 p.1)
 
 not_printed_fits : (line : ℕ) (rows : Rows) (ts : Trees) (r : Action × Rows) → not_printed line rows ts ≡ Ok r → ActionFits r.0
@@ -247,8 +247,8 @@ one_fits_prop (Some x) = hlevel le_prop
 
 action_fits_prop : (a : Action) → IsProp (ActionFits a)
 action_fits_prop (Evaluate x) = hlevel le_prop
-action_fits_prop (Trace x) = hlevel le_prop
-action_fits_prop (Print format args) = all_fit_prop args
+action_fits_prop (Trace t x) = hlevel le_prop
+action_fits_prop (Print format types args) = all_fit_prop args
 action_fits_prop (Exit x) = hlevel le_prop
 action_fits_prop (Aggregate index keys argument) = hlevel (all_fit_prop, one_fits_prop)
 

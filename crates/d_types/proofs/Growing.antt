@@ -9,7 +9,8 @@ use Rattle.d_types.specs.Typed.{Typed, Constant, Text, Fixed, Read, Unary, Opera
 use Rattle.d_types.specs.Typed.{CompareText, Logic, Choice, Convert, Assign, Update, Count, Strlen}
 use Rattle.d_types.specs.Typed.{Strjoin, Typeds, end, more}
 use Rattle.std.specs.List.{position_from}
-use Rattle.d_types.specs.Variables.{Row, Rows, names_row, find, type_at, set_type}
+use Rattle.d_types.specs.Variables.{Row, Rows, find, type_at, set_type}
+use Rattle.d_types.specs.Steps.Variables.{names_row}
 use Rattle.d_types.specs.Targets.{settle_slot}
 use Rattle.d_types.specs.Held.{Slots, IsKnown, IsConsistent, AreConsistent}
 

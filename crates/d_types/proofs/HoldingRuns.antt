@@ -5,6 +5,7 @@ use Rattle.d_values.specs.declared.value.Value.{Value}
 use Rattle.firings.specs.declared.firing.Firing.{Firing}
 use Rattle.d_types.specs.declared.effect.Effect.{Effect}
 use Rattle.d_types.specs.declared.effect.Effect.TheVariants as ef
+use Rattle.d_values.specs.declared.int_type.DType.{DType}
 use Rattle.d_types.specs.Typed.{Typed, Typeds, end, more, type_of, Action, Evaluate, Trace, Print}
 use Rattle.d_types.specs.Typed.{Exit, Aggregate, ClauseMeant}
 use Rattle.d_types.specs.Storage.{Variables}
@@ -40,18 +41,16 @@ module _ (slots : Slots) (f : Firing) (fit : HasTypedBuiltIns f) where
   later a go vars is good rest =
       one slots (IsOf (type_of a)) (λ x. Unit {0}) (eval f a vars) go (eval_is slots f fit a vars is good) (λ x late fits well. rest x late well)
 
-  word_kept : (o : Outcome Value) → Kept o → Kept (number_outcome o)
-  word_kept (Has x vars) good = good
-  word_kept (Faults vars) good = good
-
   number_kept : (a : Typed) (vars : Variables) → IsConsistent slots a → AreTyped slots vars → Kept (number_outcome (eval f a vars))
   number_kept a vars is good = later a _ vars is good (λ x late well. (tt, well))
 
-  values_kept : (all : Typeds) (vars : Variables) → EachIs (IsConsistent slots) all → AreTyped slots vars → Kept (values_of f all vars)
-  values_kept end vars is good = (tt, good)
-  values_kept (more a rest) vars is good =
-      later a (λ x vars. with (values_of f rest vars) (λ xs. Has ((type_of a, x) ∷ xs))) vars is.0 good
-      (λ x late well. one slots (λ y. Unit {0}) (λ y. Unit {0}) (values_of f rest late) (λ xs. Has ((type_of a, x) ∷ xs)) (values_kept rest late is.1 well)
+  values_kept : (types : List DType) (all : Typeds) (vars : Variables) → EachIs (IsConsistent slots) all → AreTyped slots vars → Kept (values_of f types all vars)
+  values_kept [] end vars is good = (tt, good)
+  values_kept [] (more a rest) vars is good = (tt, good)
+  values_kept (t ∷ types) end vars is good = (tt, good)
+  values_kept (t ∷ types) (more a rest) vars is good =
+      later a (λ x vars. with (values_of f types rest vars) (λ xs. Has ((t, x) ∷ xs))) vars is.0 good
+      (λ x late well. one slots (λ y. Unit {0}) (λ y. Unit {0}) (values_of f types rest late) (λ xs. Has ((t, x) ∷ xs)) (values_kept types rest late is.1 well)
       (λ xs last any fine. (tt, fine)))
 
   given_kept : (argument : Option Typed) (vars : Variables) → AnyIs (IsConsistent slots) argument → AreTyped slots vars → Kept (argument_value f argument vars)
@@ -61,9 +60,9 @@ module _ (slots : Slots) (f : Firing) (fit : HasTypedBuiltIns f) where
 
   pub effect_kept : (a : Action) (vars : Variables) → ActionIs (IsConsistent slots) a → AreTyped slots vars → Kept (effect_of f a vars)
   effect_kept (Evaluate a) vars is good = later a (λ x. Has ef.Nothing) vars is good (λ x late well. (tt, well))
-  effect_kept (Trace a) vars is good = later a (λ x. Has (ef.Says (trace_line (type_of a) x))) vars is good (λ x late well. (tt, well))
-  effect_kept (Print format all) vars is good =
-      one slots (λ y. Unit {0}) (λ y. Unit {0}) (values_of f all vars) (λ values. Has (ef.Says (printf_text format values))) (values_kept all vars is good)
+  effect_kept (Trace t a) vars is good = later a (λ x. Has (ef.Says (trace_line t x))) vars is good (λ x late well. (tt, well))
+  effect_kept (Print format types all) vars is good =
+      one slots (λ y. Unit {0}) (λ y. Unit {0}) (values_of f types all vars) (λ values. Has (ef.Says (printf_text format values))) (values_kept types all vars is good)
       (λ xs late any well. (tt, well))
   effect_kept (Exit a) vars is good =
       one slots (λ y. Unit {0}) (λ y. Unit {0}) (number_outcome (eval f a vars)) (λ word. Has (ef.Exits (word % 256))) (number_kept a vars is good)

@@ -94,8 +94,8 @@ module _ (slots : Slots) where
 
   action_prop : (a : Action) → IsProp (ActionIs (IsConsistent slots) a)
   action_prop (Evaluate a) = one_prop a
-  action_prop (Trace a) = one_prop a
-  action_prop (Print format arguments) = all_prop arguments
+  action_prop (Trace t a) = one_prop a
+  action_prop (Print format types arguments) = all_prop arguments
   action_prop (Exit a) = one_prop a
   action_prop (Aggregate index keys argument) = hlevel (all_prop, any_prop)
 

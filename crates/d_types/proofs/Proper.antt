@@ -154,8 +154,8 @@ suited (Some a) keys argument h = (a, refl)
 
 action_on : (aggs after : Aggs) → Keeps aggs after → (a : Action) → IsProperAction aggs a → IsProperAction after a
 action_on aggs after keeps (Evaluate x) h = tt
-action_on aggs after keeps (Trace x) h = tt
-action_on aggs after keeps (Print format args) h = h
+action_on aggs after keeps (Trace t x) h = tt
+action_on aggs after keeps (Print format types args) h = h
 action_on aggs after keeps (Exit x) h = h
 action_on aggs after keeps (Aggregate index keys argument) h =
     let known = suited (slice_get aggs index) keys argument h.1 in
@@ -327,8 +327,8 @@ suits_prop (Some a) keys argument = hlevel (kinds_set, le_prop, takes_prop)
 
 action_prop : (aggs : Aggs) (a : Action) → IsProp (IsProperAction aggs a)
 action_prop aggs (Evaluate x) = hlevel
-action_prop aggs (Trace x) = hlevel
-action_prop aggs (Print format args) = hlevel Bool-set
+action_prop aggs (Trace t x) = hlevel
+action_prop aggs (Print format types args) = hlevel Bool-set
 action_prop aggs (Exit x) = hlevel integer_prop
 action_prop aggs (Aggregate index keys argument) = hlevel (le_prop, suits_prop)
 

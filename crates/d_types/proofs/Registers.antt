@@ -8,7 +8,7 @@ use Rattle.d_types.specs.declared.typed.Variable.{Variable}
 use Rattle.d_types.specs.declared.typed.TypedExpr.{TypedExpr}
 use Rattle.d_types.specs.declared.typed.TypedExpr.TheVariants as e
 use Rattle.d_types.specs.Typed as typed
-use Rattle.d_types.specs.Typed.{Typed, Typeds, typed_of, typeds_of}
+use Rattle.d_types.specs.Typed.{Typeds, typed_of, typeds_of}
 use Rattle.d_types.specs.Needs.{need, need_of_keys, count}
 use Rattle.d_types.proofs.Rows.{keys_are, count_is}
 

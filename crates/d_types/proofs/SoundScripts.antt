@@ -18,7 +18,7 @@ use Rattle.d_types.specs.Steps.Faults.{Keys}
 use Rattle.d_types.specs.Steps.Faults.{AggregationRedefined, LquantizeBounds, PrintfArguments}
 use Rattle.d_types.specs.Steps.Faults.{NoRegister}
 use Rattle.d_types.specs.Words.{callee_named, aggregating_named}
-use Rattle.d_types.specs.Typed.{Typed, Typeds, end, more, type_of, Action, Evaluate}
+use Rattle.d_types.specs.Typed.{Typed, Typeds, end, more, type_of, types_of, Action, Evaluate}
 use Rattle.d_types.specs.Steps.Typing.{with_typed}
 use Rattle.d_types.specs.Typed.{Trace}
 use Rattle.d_types.specs.Typed.{Print, Exit, Aggregate, Agg, Aggs, ClauseMeant, ScriptMeant}
@@ -91,7 +91,7 @@ trace_sound : (line : ℕ) (name : List ℕ) (rows : Rows) (ts : Trees) (r : Act
 trace_sound line name rows ts r h =
     let p = bound (wholes end rows ts) _ _ h in
     let q = bound (unless Mismatch line (only p.0.0)) _ _ p.2 in
-    let same : (Trace q.0, p.0.1) ≡ r = ok_is _ _ q.2 in
+    let same : (Trace (type_of q.0) q.0, p.0.1) ≡ r = ok_is _ _ q.2 in
     let one = only_is p.0.0 q.0 (is_some_of Mismatch line _ q.0 q.1) in
     subst (λ (y : Action × Rows). Acts (Some f.Trace) line name rows ts y.0 y.1) same
     (q.0, subst (λ (l : Typeds). AllTypes rows ts l p.0.1) one (all_whole rows ts p.0 p.1), refl)
@@ -119,7 +119,7 @@ print_by_sound None line rows t ts r e h = absurd (not_printed_never line rows (
 print_by_sound (Some format) line rows t ts r e h =
     let p = bound (wholes end rows ts) _ _ h in
     let q = bound (unless PrintfArguments line (pieces format)) _ _ p.2 in
-    let w = within PrintfArguments line (formats.fit q.0 p.0.0) (Print q.0 p.0.0, p.0.1) r q.2 in
+    let w = within PrintfArguments line (formats.fit q.0 p.0.0) (Print q.0 (types_of p.0.0) p.0.0, p.0.1) r q.2 in
     subst (λ (y : Action × Rows). Prints rows (tree.more t ts) y.0 y.1) w.1
     (format, q.0, p.0.0, e, all_whole rows ts p.0 p.1, read_is_spelled format q.0 (is_some_of PrintfArguments line _ q.0 q.1), w.0, refl)
 

@@ -5,14 +5,15 @@ use Rattle.d_types.specs.Vocabulary.{Int, Tree, Trees, DType, IntType, INT64, pr
 use Rattle.d_types.specs.Vocabulary.{BuiltIn, Space}
 use Rattle.d_types.specs.Vocabulary.{Callee, DeclaredType, DeclarationTree, StmtTree, ItemTree}
 use Rattle.d_types.specs.Vocabulary.{ClauseTree, Piece, MAX_KEYS, AggFn, Aggregating}
-use Rattle.d_types.specs.Typed.{Typed, Typeds, end, more, Action, Evaluate, Trace, Print, Exit}
+use Rattle.d_types.specs.Typed.{Typed, Typeds, end, more, type_of, types_of, Action, Evaluate, Trace}
+use Rattle.d_types.specs.Typed.{Print, Exit}
 use Rattle.d_types.specs.Typed.{Aggregate, Agg, Aggs, ClauseMeant, ScriptMeant}
 use Rattle.d_types.specs.Needs.{count}
 use Rattle.d_types.specs.Variables.{Rows, find, type_at, keys_at, kinds_of_typed}
 use Rattle.d_types.specs.Steps.Variables.{types_in}
 use Rattle.d_types.specs.Constants.{int_type, constant, declared_type}
 use Rattle.d_types.specs.Steps.Statements.{text_of_constant}
-use Rattle.d_types.specs.Constants.{declared_kinds}
+use Rattle.d_types.specs.Steps.Scripts.{declared_kinds}
 use Rattle.d_types.specs.Words.{built_in, callee_named, aggregating_named}
 use Rattle.d_types.specs.Operators.{conversion_node}
 use Rattle.d_types.specs.Targets.{space_of, type_at_once}
@@ -99,11 +100,11 @@ Prints rows Trees.end a after = ⊥
 Prints rows (Trees.more t rest) a after =
     (format : List ℕ) × (ps : List Piece) × (ks : Typeds) × (text_of_constant t ≡ Some format)
     × AllTypes rows rest ks after
-    × SpellsFormat ps format × (formats.fit ps ks ≡ true) × (a ≡ Print ps ks)
+    × SpellsFormat ps format × (formats.fit ps ks ≡ true) × (a ≡ Print ps (types_of ks) ks)
 
 abbrev pub Acts : Option Callee → ℕ → List ℕ → Rows → Trees → Action → Rows → Type 0
 Acts (Some Callee.Trace) line name rows args a after =
-    (x : Typed) × AllTypes rows args (more x end) after × (a ≡ Trace x)
+    (x : Typed) × AllTypes rows args (more x end) after × (a ≡ Trace (type_of x) x)
 Acts (Some Callee.Exit) line name rows args a after =
     (x : Typed) × (t : IntType) × AllTypes rows args (more x end) after × IsInteger x t
     × (a ≡ Exit x)

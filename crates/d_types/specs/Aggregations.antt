@@ -2,11 +2,11 @@
 -- Source: Dynamic Tracing Guide, "Aggregations".
 use Rattle.std.specs.Prelude.{ℕ, ◌&&◌, nat_le, Bool, true, false, List, Option, Some, None, ℤ, pos}
 use Rattle.std.specs.Prelude.{neg_ℤ}
-use Rattle.std.specs.List.{find, enumerate_from}
+use Rattle.std.specs.List.{find, enumerate_from, list_all}
 use Rattle.d_types.specs.Vocabulary.{bytes_eq, option_map, Int, Text, linear_range}
 use Rattle.d_types.specs.Vocabulary.{UnaryOperator, Constant, Tree, Trees, DType, AggFn}
 use Rattle.d_types.specs.Vocabulary.{Aggregating}
-use Rattle.d_types.specs.Typed.{Typed, Typeds, end, more, type_of, Agg, Aggs}
+use Rattle.d_types.specs.Typed.{Typed, Typeds, end, more, types_of, Agg, Aggs}
 use Rattle.d_types.specs.Needs.{count}
 
 -- ---- bounds and steps, which are read from the text
@@ -45,10 +45,6 @@ abbrev pub is_integer : DType → Bool
 is_integer (Int t) = true
 is_integer Text = false
 
-abbrev pub integers : Typeds → Bool
-integers end = true
-integers (more x rest) = is_integer (type_of x) && integers rest
-
 -- count() takes nothing, lquantize three or four arguments, the others one
 abbrev pub takes_arguments : Aggregating → ℕ → Bool
 takes_arguments (Aggregating.Named AggFn.Count) n = nat_le n 0
@@ -57,7 +53,7 @@ takes_arguments f n = nat_le 1 n && nat_le n 1
 
 -- integers, of the number that the function takes
 abbrev pub arguments_fit : Aggregating → Typeds → Bool
-arguments_fit f args = takes_arguments f (count args) && integers args
+arguments_fit f args = takes_arguments f (count args) && list_all is_integer (types_of args)
 
 -- the first argument is what is aggregated
 abbrev pub first : Typeds → Option Typed
@@ -68,4 +64,4 @@ first (more x rest) = Some x
 
 -- the index of an aggregation, in a list whose first index is n, and what it is
 abbrev pub find_from : ℕ → List ℕ → Aggs → Option (ℕ × Agg)
-find_from n name aggs = find (λ a. bytes_eq a.1.name name) (enumerate_from n aggs)
+find_from n name aggs = find (λ (index, a). bytes_eq a.name name) (enumerate_from n aggs)

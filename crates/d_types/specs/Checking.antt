@@ -9,14 +9,15 @@ use Rattle.d_types.specs.Vocabulary.{TypeFault, IntType, AggFn, Piece, Space, MA
 use Rattle.d_types.specs.Vocabulary.{DeclarationTree, StmtTree, ItemTree, ClauseTree, DeclaredType}
 use Rattle.d_types.specs.Vocabulary.{MAX_NEED, promoted_of, Constant, Variable as Slot}
 use Rattle.d_types.specs.Formats as formats
-use Rattle.d_types.specs.Typed.{Typed, Typeds, end, more, Agg, Aggs, Action, ClauseMeant}
+use Rattle.d_types.specs.Typed.{Typed, Typeds, end, more, type_of, types_of, Agg, Aggs, Action}
+use Rattle.d_types.specs.Typed.{ClauseMeant}
 use Rattle.d_types.specs.Typed.{ScriptMeant, Evaluate, Trace, Print, Exit, Aggregate}
-use Rattle.d_types.specs.Variables.{Rows, find, type_at, keys_at, kinds_of_typed}
+use Rattle.d_types.specs.Variables.{Rows, find, type_at, keys_at, kind_of_type, kinds_of_typed}
 use Rattle.d_types.specs.Words.{built_in, callee_named, aggregating_named}
 use Rattle.d_types.specs.Targets.{space_of, type_at_once, new_row}
 use Rattle.d_types.specs.Operators.{conversion_node}
 use Rattle.d_types.specs.Lines.{line_of_variable, line_of}
-use Rattle.d_types.specs.Constants.{constant, declared_kinds}
+use Rattle.d_types.specs.Constants.{constant}
 use Rattle.d_types.specs.{Needs.count, Needs.need, Constants.int_type, Constants.declared_type}
 use Rattle.d_types.specs.{Spelling.SpellsFormat}
 use Rattle.d_types.specs.Aggregations.{arguments_fit, function, find_from, first}
@@ -44,14 +45,13 @@ refused fault known answer = answer ≡ Err fault
 
 -- what the rule gives, with what is known by it; or this fault, if it gives nothing
 unfoldable pub by_change : {A : Type 0} → (Known → A → Known → Type 0) → TypeFault → Checked A
-by_change Rule fault known (Ok r) = Rule known r.0 r.1
+by_change Rule fault known (Ok (x, after)) = Rule known x after
 by_change Rule fault known (Err f) =
     (¬ ((x : _) × (after : Known) × Rule known x after)) × (f ≡ fault)
 
 -- by a rule that changes no aggregation
 abbrev pub by_rows : {A : Type 0} → (Rows → A → Rows → Type 0) → TypeFault → Checked A
-by_rows Rule =
-    by_change (λ known x after. Rule known.rows x after.rows × (after.aggs ≡ known.aggs))
+by_rows Rule = by_change (λ known x after. Rule known.rows x after.rows × (after.aggs ≡ known.aggs))
 
 -- by a rule that changes nothing
 abbrev pub by_known : {A : Type 0} → (Known → A → Type 0) → TypeFault → Checked A
@@ -83,36 +83,36 @@ abbrev pub IsVariable : Space → List ℕ → Rows → Slot → Type 0
 IsVariable space name rows x =
     (x.space ≡ space) × (find space name rows ≡ Some x.slot) × (type_at rows x.slot ≡ Some x.holds)
 
--- its value at these keys
-abbrev pub read_own : Space → ℕ → List ℕ → Typeds → Checked Typed
-read_own space line name keys = do
+-- the variable of this name in a space, read at these keys
+abbrev pub read_in : Space → ℕ → List ℕ → Typeds → Checked Typed
+read_in space line name keys = do
   x ← by_known (λ known. IsVariable space name known.rows) (TypeFault.Undeclared line)
   needs (λ known. keys_at known.rows x.slot ≡ Some (kinds_of_typed keys)) (TypeFault.Keys line)
   gives (Typed.Read x keys)
 
--- a word alone is a built-in, which has no keys
+-- a variable that is read: a word alone is a built-in, which has no keys
 abbrev pub read : Variable → Typeds → Checked Typed
 read (Variable.Plain line name) keys = do
   b ← by_rule (λ b. built_in name ≡ Some b) (TypeFault.Undeclared line)
   needs (λ known. keys ≡ end) (TypeFault.Keys line)
   gives (Typed.Fixed b)
-read (Variable.Thread line name) keys = read_own Space.Thread line name keys
-read (Variable.Clause line name) keys = read_own Space.Clause line name keys
+read (Variable.Thread line name) keys = read_in Space.Thread line name keys
+read (Variable.Clause line name) keys = read_in Space.Clause line name keys
 
 -- the slot of a variable that is assigned, which has this type from here on, if any
-abbrev pub target_own : Space → ℕ → List ℕ → Option DType → Typeds → Checked ℕ
-target_own space line name t keys = by_rows (IsSlotOf space name t keys) (TypeFault.Keys line)
+abbrev pub target_in : Space → ℕ → List ℕ → Option DType → Typeds → Checked ℕ
+target_in space line name t keys = by_rows (IsSlotOf space name t keys) (TypeFault.Keys line)
 
--- a word alone is never assigned
+-- a variable that is assigned, which a word alone never is
 abbrev pub target : Variable → Option DType → Typeds → Checked ℕ
 target (Variable.Plain line name) t keys = do
   needs (λ known. built_in name ≢ None) (TypeFault.GlobalAssignment name line)
   needs (λ known. keys ≡ end) (TypeFault.Keys line)
   refused (TypeFault.ReadOnly line)
-target (Variable.Thread line name) t keys = target_own Space.Thread line name t keys
-target (Variable.Clause line name) t keys = target_own Space.Clause line name t keys
+target (Variable.Thread line name) t keys = target_in Space.Thread line name t keys
+target (Variable.Clause line name) t keys = target_in Space.Clause line name t keys
 
--- `++` and `--`
+-- `++` and `--`, of a variable at these keys
 abbrev pub stepped : ℕ → Step → Answer → Variable → Typeds → Checked Typed
 stepped line by answer v keys = do
   slot ← target v (Some (Int INT64)) keys
@@ -158,10 +158,7 @@ abbrev mutual
 
   pub expressions : Trees → Checked Typeds
   expressions Trees.end = gives end
-  expressions (Trees.more a rest) = do
-    x ← expression a
-    xs ← expressions rest
-    gives (more x xs)
+  expressions (Trees.more a all) = expression a >>= λ x. expressions all >>= λ xs. gives (more x xs)
 
 -- an expression that is no part of another
 abbrev pub whole : Tree → Checked Typed
@@ -172,38 +169,32 @@ whole t = do
 
 abbrev pub wholes : Trees → Checked Typeds
 wholes Trees.end = gives end
-wholes (Trees.more a rest) = do
-  x ← whole a
-  xs ← wholes rest
-  gives (more x xs)
+wholes (Trees.more a rest) = whole a >>= λ x. wholes rest >>= λ xs. gives (more x xs)
 
 -- ---- statements
-
-abbrev pub evaluated : Tree → Checked Action
-evaluated t = whole t >>= λ x. gives (Evaluate x)
 
 -- a format, which is a text constant, and an argument for each of its conversions
 abbrev pub printed : ℕ → Trees → Checked Action
 printed line (Trees.more (Tree.Known at (Constant.Text format)) rest) = do
   xs ← wholes rest
   by_rule (λ a. (ps : List Piece) × SpellsFormat ps format × (formats.fit ps xs ≡ true)
-      × (a ≡ Print ps xs))
-      (TypeFault.PrintfArguments line)
+      × (a ≡ Print ps (types_of xs) xs)) (TypeFault.PrintfArguments line)
 printed line args = wholes args >> refused (TypeFault.PrintfArguments line)
 
 -- a call that is a whole statement is an action
 abbrev pub called : Option Callee → ℕ → List ℕ → Trees → Checked Action
 called (Some Callee.Trace) line name args = do
   xs ← wholes args
-  by_rule (λ a. (x : Typed) × (xs ≡ more x end) × (a ≡ Trace x)) (TypeFault.Mismatch line)
+  by_rule (λ a. (x : Typed) × (xs ≡ more x end) × (a ≡ Trace (type_of x) x))
+      (TypeFault.Mismatch line)
 called (Some Callee.Exit) line name args = do
   xs ← wholes args
   by_rule (λ a. (x : Typed) × (t : IntType) × (xs ≡ more x end) × IsInteger x t × (a ≡ Exit x))
       (TypeFault.Mismatch line)
 called (Some Callee.Printf) line name args = printed line args
-called callee line name args = evaluated (Tree.Call line name args)
+called callee line name args = whole (Tree.Call line name args) >>= λ x. gives (Evaluate x)
 
--- one more aggregation, at the end
+-- the index of one more aggregation, at the end of those that are known
 abbrev pub appended : Agg → Checked ℕ
 appended a known answer =
     answer ≡ Ok (length known.aggs, record known { aggs = known.aggs ++ a ∷ [] })
@@ -220,6 +211,7 @@ placed line name keys g None = do
   h ← by_rule (λ h. g ≡ Some h) (TypeFault.LquantizeBounds line)
   appended (record { name = name; keys = kinds_of_typed keys; function = h })
 
+-- the keys, the function's name, the arguments, and then the aggregation among those known
 abbrev pub aggregated : ℕ → List ℕ → Trees → List ℕ → Trees → Checked Action
 aggregated line name keys word args = do
   ks ← wholes keys
@@ -232,15 +224,12 @@ aggregated line name keys word args = do
 abbrev pub statement : StmtTree → Checked Action
 statement (StmtTree.Expression (Tree.Call line name args)) =
     called (callee_named name) line name args
-statement (StmtTree.Expression t) = evaluated t
+statement (StmtTree.Expression t) = whole t >>= λ x. gives (Evaluate x)
 statement (StmtTree.Aggregation line name keys word args) = aggregated line name keys word args
 
 abbrev pub statements : List StmtTree → Checked (List Action)
 statements [] = gives []
-statements (t ∷ rest) = do
-  a ← statement t
-  others ← statements rest
-  gives (a ∷ others)
+statements (t ∷ rest) = statement t >>= λ a. statements rest >>= λ others. gives (a ∷ others)
 
 -- ---- clauses and declarations
 
@@ -264,8 +253,8 @@ abbrev pub declared : Space → ℕ → List ℕ → DeclaredType → List Decla
 declared space line name t keys = do
   needs (λ known. find space name known.rows ≡ None) (TypeFault.Mismatch line)
   by_rows (λ rows u after. (length keys ≤ MAX_KEYS)
-      × (after ≡ rows ++ new_row space name (Some (declared_type t)) (declared_kinds keys) ∷ []))
-      (TypeFault.Keys line)
+      × (after ≡ rows ++ new_row space name (Some (declared_type t))
+      (map (λ key. kind_of_type (declared_type key)) keys) ∷ [])) (TypeFault.Keys line)
 
 abbrev pub declaration : DeclarationTree → Checked (Unit {0})
 declaration (DeclarationTree.OfThread line t name keys) = declared Space.Thread line name t keys
@@ -277,10 +266,7 @@ declaration (DeclarationTree.OfClause line t name) = declared Space.Clause line 
 abbrev pub items : List ItemTree → Checked (List ClauseMeant)
 items [] = gives []
 items (ItemTree.Declared d ∷ rest) = declaration d >> items rest
-items (ItemTree.Probing c ∷ rest) = do
-  m ← clause c
-  others ← items rest
-  gives (m ∷ others)
+items (ItemTree.Probing c ∷ rest) = clause c >>= λ m. items rest >>= λ ms. gives (m ∷ ms)
 
 -- what the script means, or its first fault
 abbrev pub IsChecked : List ItemTree → Result ScriptMeant TypeFault → Type 0

@@ -2,12 +2,12 @@
 -- Source: Dynamic Tracing Guide, "Predicates" and "Actions and Subroutines".
 use Rattle.std.specs.Prelude.{ℕ, ◌%◌, List, [], ◌∷◌, ◌++◌, Option, Some, None, ℤ, pos, codes}
 use Rattle.std.specs.Option.{option_or}
-use Rattle.d_types.specs.Vocabulary.{decimal, cast_signed, w64, Contribution, contribution, DType}
+use Rattle.d_types.specs.Vocabulary.{decimal, cast_signed, w64, Contribution, DType}
 use Rattle.d_types.specs.Vocabulary.{KeyPart, Value, Firing, Effect}
-use Rattle.d_types.specs.Typed.{Typed, Typeds, end, more, type_of, ActionOf, Evaluate}
+use Rattle.d_types.specs.Typed.{Typed, Typeds, more, ActionOf, Evaluate}
 use Rattle.d_types.specs.Typed.{Trace, Print, Exit, Aggregate, ClauseMeant}
-use Rattle.d_types.specs.Expressions.{Outcome, Has, Faults, with, number_outcome, at_zero, eval}
-use Rattle.d_types.specs.Expressions.{keys_of}
+use Rattle.d_types.specs.Expressions.{Outcome, Has, Faults, with, number, number_outcome}
+use Rattle.d_types.specs.Expressions.{at_zero, eval, keys_of}
 use Rattle.d_types.specs.{Storage.Variables, Printing.trace_line, Printing.printf_text}
 
 -- ---- evaluation
@@ -17,19 +17,19 @@ use Rattle.d_types.specs.{Storage.Variables, Printing.trace_line, Printing.print
 pub record Evaluation (E Es : Type 0) : Type 0 where
   pub value : E → Variables → Outcome Value
   -- printf's arguments, each with its type
-  pub values : Es → Variables → Outcome (List (DType × Value))
+  pub values : List DType → Es → Variables → Outcome (List (DType × Value))
   -- an aggregation's key
   pub key : Es → Variables → Outcome (List KeyPart)
-  pub type : E → DType
 
-abbrev pub values_of : Firing → Typeds → Variables → Outcome (List (DType × Value))
-values_of f end vars = Has [] vars
-values_of f (more a rest) vars =
-    with (eval f a vars) (λ x vars. with (values_of f rest vars) (λ xs. Has ((type_of a, x) ∷ xs)))
+-- the values of the arguments, each beside its type
+abbrev pub values_of : Firing → List DType → Typeds → Variables → Outcome (List (DType × Value))
+values_of f (t ∷ types) (more a rest) vars =
+    with (eval f a vars) (λ x vars. with (values_of f types rest vars) (λ xs. Has ((t, x) ∷ xs)))
+values_of f types none vars = Has [] vars
 
 -- the evaluation of typed trees
 abbrev pub by_trees : Firing → Evaluation Typed Typeds
-by_trees f = record { value = eval f; values = values_of f; key = keys_of f; type = type_of }
+by_trees f = record { value = eval f; values = values_of f; key = keys_of f }
 
 -- ---- one statement
 
@@ -37,18 +37,15 @@ module _ {E Es : Type 0} (by : Evaluation E Es) where
   -- what an aggregating function is given, as a signed number; 0 if it takes nothing
   abbrev pub argument_by : Option E → Variables → Outcome ℤ
   argument_by None vars = Has (pos 0) vars
-  argument_by (Some a) vars =
-      with (number_outcome (by.value a vars)) (λ word. Has (cast_signed w64 word))
+  argument_by (Some a) vars = number (by.value a vars) (λ word. Has (cast_signed w64 word))
 
   -- what a statement does beside its assignments, or the fault
   abbrev pub effect_by : ActionOf E Es → Variables → Outcome Effect
   effect_by (Evaluate a) vars = with (by.value a vars) (λ x. Has Effect.Nothing)
-  effect_by (Trace a) vars = with (by.value a vars) (λ x. Has
-      (Effect.Says (trace_line (by.type a) x)))
-  effect_by (Print format arguments) vars =
-      with (by.values arguments vars) (λ values. Has (Effect.Says (printf_text format values)))
-  effect_by (Exit a) vars =
-      with (number_outcome (by.value a vars)) (λ word. Has (Effect.Exits (word % 256)))
+  effect_by (Trace t a) vars = with (by.value a vars) (λ x. Has (Effect.Says (trace_line t x)))
+  effect_by (Print format types all) vars =
+      with (by.values types all vars) (λ values. Has (Effect.Says (printf_text format values)))
+  effect_by (Exit a) vars = number (by.value a vars) (λ word. Has (Effect.Exits (word % 256)))
   effect_by (Aggregate index keys argument) vars =
       with (by.key keys vars)
       (λ key vars. with (argument_by argument vars) (λ z. Has (Effect.Adds index key z)))
@@ -81,7 +78,7 @@ effect_result Effect.Nothing vars = nothing_made vars
 effect_result (Effect.Says text) vars = record (nothing_made vars) { texts = text ∷ [] }
 effect_result (Effect.Exits status) vars = record (nothing_made vars) { exit = Some status }
 effect_result (Effect.Adds index key z) vars =
-    record (nothing_made vars) { contributions = contribution index key z ∷ [] }
+    record (nothing_made vars) { contributions = record { agg = index; key = key; arg = z } ∷ [] }
 
 -- the line that stands for a fault at the firing of this number in the clause at this index
 abbrev pub fault_line : ℕ → ℕ → List ℕ
@@ -104,7 +101,7 @@ module _ {E Es : Type 0} (by : Evaluation E Es) where
       go_on line before (effect_by by action before.variables)
       (λ effect vars. statements_made line rest (and_then before (effect_result effect vars)))
 
-  -- statements if the predicate isn't 0, where this line stands for a fault
+  -- a run: the statements if the predicate isn't 0, or if there is none
   abbrev pub run_by : List ℕ → Option E → List (ActionOf E Es) → Variables → Made
   run_by line None statements vars = statements_made line statements (nothing_made vars)
   run_by line (Some predicate) statements vars =

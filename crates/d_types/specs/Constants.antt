@@ -1,11 +1,10 @@
 -- The types that constants have, and those that words name.
 -- Source: Dynamic Tracing Guide, "Constants".
-use Rattle.std.specs.Prelude.{ℕ, nat_le, if◌then◌else◌, take, List, map}
+use Rattle.std.specs.Prelude.{ℕ, nat_le, if◌then◌else◌, take}
 use Rattle.d_types.specs.Vocabulary.{Suffix, IntegerType, DeclaredType, IntType, DType, INT8, INT16}
 use Rattle.d_types.specs.Vocabulary.{INT32, INT64, UINT8, UINT16, UINT32, UINT64, Constant}
-use Rattle.d_types.specs.Vocabulary.{longest, Kind}
+use Rattle.d_types.specs.Vocabulary.{longest}
 use Rattle.d_types.specs.Typed.{Typed}
-use Rattle.d_types.specs.Variables.{kind_of_type}
 
 -- the first of int, long and unsigned long that holds the value, or of those with the suffix
 abbrev pub type_of_constant : ℕ → Suffix → IntType
@@ -34,6 +33,3 @@ declared_type DeclaredType.Text = DType.Text
 abbrev pub constant : Constant → Typed
 constant (Constant.Number v suffix) = Typed.Constant (type_of_constant v suffix) v
 constant (Constant.Text bytes) = Typed.Text (take longest bytes)
-
-abbrev pub declared_kinds : List DeclaredType → List Kind
-declared_kinds all = map (λ t. kind_of_type (declared_type t)) all

@@ -1,10 +1,10 @@
 -- What an expression means: its value, or the fault, and the variables after it.
 -- Source: Dynamic Tracing Guide, "Types, Operators, and Expressions".
-use Rattle.std.specs.Prelude.{ℕ, zero, suc, List, [], ◌∷◌, length, Bool, Result, Ok, Err}
+use Rattle.std.specs.Prelude.{ℕ, ◌-◌, ◌^◌, zero, suc, List, [], ◌∷◌, length, Bool, Result, Ok, Err}
 use Rattle.std.specs.Prelude.{if◌then◌else◌, pos, get_or}
 use Rattle.d_types.specs.Vocabulary.{cast_unsigned, w64, UnaryOperator, Step, OutOfZero, IntType}
 use Rattle.d_types.specs.Vocabulary.{DType, KeyPart, Value, holds_of, text_cmp, joined_text, narrow}
-use Rattle.d_types.specs.Vocabulary.{binary_of, shift_of, opposite_of, complement_of, order_of}
+use Rattle.d_types.specs.Vocabulary.{binary_of, shift_of, order_of}
 use Rattle.d_types.specs.Vocabulary.{sum_of, difference_of, Firing, Answer, BuiltIn, LogicOperator}
 use Rattle.d_types.specs.Vocabulary.{Operation, Variable}
 use Rattle.d_types.specs.Typed.{Typed, Constant, Text, Fixed, Read, Unary, Operate, Compare}
@@ -22,16 +22,23 @@ abbrev pub word_or_fault : Result ℕ OutOfZero → Variables → Outcome ℕ
 word_or_fault (Ok word) vars = Has word vars
 word_or_fault (Err e) vars = Faults vars
 
--- ---- values
-
+-- the word of what it has
 abbrev pub number_outcome : Outcome Value → Outcome ℕ
 number_outcome o = with o (λ x. Has (word_of x))
 
+-- goes on with the word of an integer
+abbrev pub number : {A : Type 0} → Outcome Value → (ℕ → Variables → Outcome A) → Outcome A
+number o go = with (number_outcome o) go
+
+-- the bytes of what it has
 abbrev pub text_outcome : Outcome Value → Outcome (List ℕ)
 text_outcome o = with o (λ x. Has (bytes_of x))
 
+-- the word, as a value
 abbrev pub integer : Outcome ℕ → Outcome Value
 integer o = with o (λ word. Has (Value.Int word))
+
+-- ---- values
 
 -- 1 for true, 0 for false
 abbrev pub truth : Bool → ℕ
@@ -66,8 +73,8 @@ built_in_value f BuiltIn.Probename = Value.Text f.name
 
 abbrev pub unary_of : UnaryOperator → IntType → ℕ → ℕ
 unary_of UnaryOperator.Not t word = inverse word
-unary_of UnaryOperator.Complement t word = complement_of t word
-unary_of UnaryOperator.Negate t word = opposite_of t word
+unary_of UnaryOperator.Complement t word = narrow t (2 ^ 64 - 1 - word)
+unary_of UnaryOperator.Negate t word = narrow t (difference_of 0 word)
 unary_of UnaryOperator.Keep t word = word
 
 abbrev pub operation_of : Operation → ℕ → ℕ → Result ℕ OutOfZero
@@ -107,53 +114,50 @@ step_outcome step answer x key old vars =
 -- ---- expressions
 
 abbrev mutual
+  -- how the expression ends at this firing, from these variables
   pub eval : Firing → Typed → Variables → Outcome Value
   eval f (Constant t word) vars = Has (Value.Int word) vars
   eval f (Text bytes) vars = Has (Value.Text bytes) vars
   eval f (Fixed b) vars = Has (built_in_value f b) vars
   eval f (Read x keys) vars =
       with (keys_of f keys vars) (λ key vars. Has (value_of_variable vars x key) vars)
-  eval f (Unary o t a) vars =
-      with (number_outcome (eval f a vars)) (λ x. Has (Value.Int (unary_of o t x)))
+  eval f (Unary o t a) vars = number (eval f a vars) (λ x. Has (Value.Int (unary_of o t x)))
   eval f (Operate o a b) vars =
-      with (number_outcome (eval f a vars)) (λ x vars. with (number_outcome (eval f b vars))
+      number (eval f a vars) (λ x vars. number (eval f b vars)
       (λ y vars. integer (word_or_fault (operation_of o x y) vars)))
   eval f (Compare o t a b) vars =
-      with (number_outcome (eval f a vars)) (λ x vars. with (number_outcome (eval f b vars))
+      number (eval f a vars) (λ x vars. number (eval f b vars)
       (λ y. Has (Value.Int (truth (holds_of o (order_of t x y))))))
   eval f (CompareText o a b) vars =
       with (text_outcome (eval f a vars)) (λ x vars. with (text_outcome (eval f b vars))
       (λ y. Has (Value.Int (truth (holds_of o (text_cmp x y))))))
   eval f (Logic LogicOperator.And a b) vars =
-      with (number_outcome (eval f a vars)) (λ x vars. at_zero x (Has (Value.Int 0) vars)
-      (with (number_outcome (eval f b vars)) (λ y. Has (Value.Int (bit y)))))
+      number (eval f a vars) (λ x vars. at_zero x (Has (Value.Int 0) vars)
+      (number (eval f b vars) (λ y. Has (Value.Int (bit y)))))
   eval f (Logic LogicOperator.Or a b) vars =
-      with (number_outcome (eval f a vars)) (λ x vars. at_zero x
-      (with (number_outcome (eval f b vars)) (λ y. Has (Value.Int (bit y)))) (Has
-      (Value.Int 1) vars))
+      number (eval f a vars) (λ x vars. at_zero x
+      (number (eval f b vars) (λ y. Has (Value.Int (bit y)))) (Has (Value.Int 1) vars))
   eval f (Logic LogicOperator.Xor a b) vars =
-      with (number_outcome (eval f a vars)) (λ x vars. with (number_outcome (eval f b vars))
+      number (eval f a vars) (λ x vars. number (eval f b vars)
       (λ y. Has (Value.Int (at_zero x (bit y) (inverse y)))))
   eval f (Choice t c a b) vars =
-      with (number_outcome (eval f c vars)) (λ x vars. at_zero x (eval f b vars) (eval f a vars))
-  eval f (Convert t u a) vars =
-      with (number_outcome (eval f a vars)) (λ x. Has (Value.Int (narrow u x)))
+      number (eval f c vars) (λ x vars. at_zero x (eval f b vars) (eval f a vars))
+  eval f (Convert t u a) vars = number (eval f a vars) (λ x. Has (Value.Int (narrow u x)))
   -- the keys, then the right side, then the change
   eval f (Assign x keys a) vars =
       with (keys_of f keys vars) (λ key vars. with (eval f a vars) (assignment_outcome x key))
   -- the variable is read before the right side is evaluated
   eval f (Update o x keys a) vars =
-      with (keys_of f keys vars) (λ key vars. with (number_outcome (eval f a vars)) (λ y after.
-      with (word_or_fault
-      (operation_of o (narrow (works_in o) (word_of (value_of_variable vars x key))) y) after)
-      (update_outcome x key)))
+      with (keys_of f keys vars) (λ key vars. number (eval f a vars) (λ y after.
+      let old = narrow (works_in o) (word_of (value_of_variable vars x key)) in
+      with (word_or_fault (operation_of o old y) after) (update_outcome x key)))
   eval f (Count step answer x keys) vars =
       with (keys_of f keys vars)
       (λ key vars. step_outcome step answer x key (word_of (value_of_variable vars x key)) vars)
   eval f (Strlen a) vars = with (text_outcome (eval f a vars)) (λ x. Has (Value.Int (length x)))
   eval f (Strjoin a b) vars =
-      with (text_outcome (eval f a vars))
-      (λ x vars. with (text_outcome (eval f b vars)) (λ y. Has (Value.Text (joined_text x y))))
+      with (text_outcome (eval f a vars)) (λ x vars. with (text_outcome (eval f b vars))
+      (λ y. Has (Value.Text (joined_text x y))))
 
   -- keys, from left to right
   pub keys_of : Firing → Typeds → Variables → Outcome (List KeyPart)

@@ -6,6 +6,7 @@ use Rattle.d_types.specs.Typed.{Typed, Constant, Text, Fixed, Read, Unary, Opera
 use Rattle.d_types.specs.Typed.{CompareText, Logic, Choice, Convert, Assign, Update, Count, Strlen}
 use Rattle.d_types.specs.Typed.{Strjoin, Typeds, end, more}
 
+-- how many expressions there are
 abbrev pub count : Typeds → ℕ
 count end = 0
 count (more x rest) = 1 + count rest
@@ -20,6 +21,7 @@ need_of_logic LogicOperator.Xor a b = need_of_two a b
 need_of_logic op a b = max a b
 
 abbrev mutual
+  -- how many registers the expression needs
   pub need : Typed → ℕ
   need (Constant t v) = 1
   need (Text w) = 1

@@ -3,6 +3,7 @@
 use Rattle.std.specs.Prelude.{ℕ, ◌+◌, ◌-◌, ◌%◌, ◌^◌, List, [], ◌∷◌, ◌++◌, length, replicate, Bool}
 use Rattle.std.specs.Prelude.{codes, false, if◌then◌else◌, ℤ, pos, int_lt, unsigned_abs}
 use Rattle.std.specs.Fmt.{signed_decimal, digits}
+use Rattle.std.specs.Str.{byte}
 use Rattle.d_types.specs.Vocabulary.{cast_signed, w64, decimal, DType, Value, Conversion, Letter}
 use Rattle.d_types.specs.Vocabulary.{Piece}
 use Rattle.d_types.specs.Storage.{word_of, bytes_of}
@@ -15,7 +16,7 @@ is_signed DType.Text = false
 abbrev pub number_in : DType → ℕ → ℤ
 number_in t word = if is_signed t then cast_signed w64 word else pos word
 
--- a word modulo 2 ^ width of its type
+-- the lowest bits of a word, as many as its type has: what `%u`, `%x` and `%o` show
 abbrev pub low_in : DType → ℕ → ℕ
 low_in (DType.Int t) word = word % 2 ^ t.width
 low_in DType.Text word = word
@@ -37,9 +38,9 @@ sign_of n = if int_lt n (pos 0) then codes "-" else []
 abbrev pub text_in_width : Conversion → Bool → List ℕ → List ℕ → List ℕ
 text_in_width c zeros sign body =
     let room = c.width - (length sign + length body) in
-    if c.left then sign ++ body ++ replicate room 32
-    else if zeros then sign ++ replicate room 48 ++ body
-    else replicate room 32 ++ sign ++ body
+    if c.left then sign ++ body ++ replicate room (byte " ")
+    else if zeros then sign ++ replicate room (byte "0") ++ body
+    else replicate room (byte " ") ++ sign ++ body
 
 abbrev pub number_in_width : Conversion → ℤ → List ℕ
 number_in_width c n = text_in_width c c.zeros (sign_of n) (decimal (unsigned_abs n))

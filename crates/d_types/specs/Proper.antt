@@ -25,8 +25,8 @@ Suits (Some a) keys argument =
 -- each part is of the kind that its place asks for, and an aggregation is one of the script's
 abbrev pub IsProperAction : Aggs → Action → Type 0
 IsProperAction aggs (Evaluate x) = Unit {0}
-IsProperAction aggs (Trace x) = Unit {0}
-IsProperAction aggs (Print format args) = formats.fit format args ≡ true
+IsProperAction aggs (Trace t x) = Unit {0}
+IsProperAction aggs (Print format types args) = formats.fit format args ≡ true
 IsProperAction aggs (Exit x) = IsSomeInteger (type_of x)
 IsProperAction aggs (Aggregate index keys argument) =
     (index < length aggs) × Suits (slice_get aggs index) keys argument

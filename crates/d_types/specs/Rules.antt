@@ -20,7 +20,7 @@ HasTextType x = type_of x ≡ Text
 
 -- ---- operators
 
--- z is the operator between x and y
+-- z is the operator between x and y, which are converted to the type that it works in
 abbrev pub IsOperation : BinaryOperator → Typed → Typed → Typed → Type 0
 IsOperation (BinaryOperator.Arithmetic op) x y z =
     (t : IntType) × (u : IntType) × IsInteger x t × IsInteger y u
@@ -37,7 +37,7 @@ IsOperation (BinaryOperator.Compare op) x y z =
 IsOperation (BinaryOperator.Logic op) x y z =
     (t : IntType) × (u : IntType) × IsInteger x t × IsInteger y u × (z ≡ Typed.Logic op x y)
 
--- z is `x ? y : w`
+-- z is `x ? y : w`, of which y and w are converted to one type
 abbrev pub IsChoice : Typed → Typed → Typed → Typed → Type 0
 IsChoice x y w z =
     ((c : IntType) × (t : IntType) × (u : IntType) × IsInteger x c × IsInteger y t × IsInteger w u
@@ -48,12 +48,12 @@ IsChoice x y w z =
 
 -- ---- variables that are assigned
 
--- the slot of a variable of this name, and the table with it: new, or with the keys that it had
+-- the slot of an assigned variable of this name, and the table after it: the variable is new and
+-- its keys are few, or it is known and the keys are of the same kinds
 abbrev pub IsSlotOf : Space → List ℕ → Option DType → Typeds → Rows → ℕ → Rows → Type 0
 IsSlotOf space name t keys rows slot after =
     ((find space name rows ≡ None) × (nat_le (count keys) (most_keys space) ≡ true)
-    × (slot ≡ length rows)
-    × (after ≡ rows ++ new_row space name t (kinds_of_typed keys) ∷ []))
+    × (slot ≡ length rows) × (after ≡ rows ++ new_row space name t (kinds_of_typed keys) ∷ []))
     ⊎ ((find space name rows ≡ Some slot) × (keys_at rows slot ≡ Some (kinds_of_typed keys))
     × (after ≡ settle_slot (type_at rows slot) slot t rows))
 
@@ -62,7 +62,7 @@ abbrev pub IsConverted : Typed → DType → Typed → Type 0
 IsConverted x (Int u) y = (t : IntType) × IsInteger x t × (y ≡ conversion_node t u x)
 IsConverted x Text y = HasTextType x × (y ≡ x)
 
--- z assigns x to the slot
+-- z assigns x, by `=` or with an operator, to the slot's variable at these keys
 abbrev pub IsAssignment : AssignOperator → Space → ℕ → Typeds → Typed → Rows → Typed → Rows → Type 0
 IsAssignment AssignOperator.Set space slot keys x rows z after =
     ((type_at rows slot ≡ None)
@@ -73,15 +73,14 @@ IsAssignment AssignOperator.Set space slot keys x rows z after =
 IsAssignment (AssignOperator.Arithmetic op) space slot keys x rows z after =
     (t : IntType) × (u : IntType) × (type_at rows slot ≡ Some (Int t)) × IsInteger x u
     × (z ≡ Typed.Update (Operation.Arithmetic op (common_of t u))
-    (record { space = space; slot = slot; holds = Int t }) keys (conversion_node u
-    (common_of t u) x))
-    × (after ≡ rows)
+    (record { space = space; slot = slot; holds = Int t }) keys
+    (conversion_node u (common_of t u) x)) × (after ≡ rows)
 IsAssignment (AssignOperator.Shift op) space slot keys x rows z after =
     (t : IntType) × (u : IntType) × (type_at rows slot ≡ Some (Int t)) × IsInteger x u
     × (z ≡ Typed.Update (Operation.Shift op (promoted_of t))
     (record { space = space; slot = slot; holds = Int t }) keys x) × (after ≡ rows)
 
--- z steps the slot's integer
+-- z adds 1 to the slot's integer or subtracts it, as the step says
 abbrev pub IsStep : Step → Answer → Space → ℕ → Typeds → Rows → Typed → Type 0
 IsStep by answer space slot keys rows z =
     (t : IntType) × (type_at rows slot ≡ Some (Int t))
@@ -89,7 +88,7 @@ IsStep by answer space slot keys rows z =
 
 -- ---- calls
 
--- z calls the function of this name
+-- z calls the function of this name, `strlen` or `strjoin`
 abbrev pub IsCall : List ℕ → Typeds → Typed → Type 0
 IsCall name args z =
     ((x : Typed) × (callee_named name ≡ Some Callee.Strlen) × (args ≡ more x end) × HasTextType x

@@ -37,8 +37,8 @@ in_option (Some x) = place_count x
 
 abbrev pub in_action : Action → ℕ
 in_action (Evaluate x) = place_count x
-in_action (Trace x) = place_count x
-in_action (Print format args) = place_count_in args
+in_action (Trace t x) = place_count x
+in_action (Print format types args) = place_count_in args
 in_action (Exit x) = place_count x
 in_action (Aggregate index keys argument) = place_count_in keys + in_option argument
 

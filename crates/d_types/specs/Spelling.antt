@@ -3,7 +3,7 @@
 use Rattle.std.specs.Prelude.{◌≡◌, ℕ, zero, suc, ◌≤◌, ◌==◌, if◌then◌else◌, List, [], ◌∷◌, ◌++◌}
 use Rattle.std.specs.Prelude.{codes}
 use Rattle.std.specs.List.{AllByRecursion, AllZip, Contains, concat}
-use Rattle.std.specs.Char.{char_set_contains}
+use Rattle.std.specs.{Char.char_set_contains, Str.byte}
 use Rattle.d_types.specs.Vocabulary.{decimal, MAX_WIDTH, Letter, Conversion, Piece}
 
 -- in decimal, or nothing if there is no width
@@ -28,13 +28,13 @@ abbrev pub IsConversion : Conversion → List ℕ → Type 0
 IsConversion c text =
     (flags : List ℕ) × (size : List ℕ) × (l : ℕ)
     × AllByRecursion (Contains (codes "-0")) flags
-    × (c.left ≡ char_set_contains flags 45) × (c.zeros ≡ char_set_contains flags 48)
+    × (c.left ≡ char_set_contains flags (byte "-")) × (c.zeros ≡ char_set_contains flags (byte "0"))
     × (c.width ≤ MAX_WIDTH) × Contains lengths size × Contains (letters c.letter) l
     × (text ≡ codes "%" ++ (flags ++ (width_text c.width ++ (size ++ l ∷ []))))
 
 -- a byte stands for itself, but a percent sign is written twice
 abbrev pub SpellsPiece : Piece → List ℕ → Type 0
-SpellsPiece (Piece.Byte b) text = text ≡ (if b == 37 then codes "%%" else b ∷ [])
+SpellsPiece (Piece.Byte b) text = text ≡ (if b == byte "%" then codes "%%" else b ∷ [])
 SpellsPiece (Piece.Argument c) text = IsConversion c text
 
 -- the format is the pieces' texts, one after another

@@ -4,8 +4,8 @@
 use Rattle.std.specs.Prelude.{List}
 use Rattle.d_types.specs.Vocabulary.{KeyPart, Var, Value, Space, Variable}
 use Rattle.d_types.specs.Variables.{kind_of_type}
-pub use Rattle.d_values.specs.Storage.{Variables, variables, set_local, set_own, word_of, bytes_of}
-pub use Rattle.d_values.specs.Storage.{as_kind}
+use Rattle.d_values.specs.Stores.{with_local, with_own}
+pub use Rattle.d_values.specs.Storage.{Variables, variables, word_of, bytes_of, as_kind}
 
 abbrev pub var_of : Variable → Var
 var_of x = record { slot = x.slot; kind = kind_of_type x.holds }
@@ -19,8 +19,8 @@ abbrev pub value_of_variable : Variables → Variable → List KeyPart → Value
 value_of_variable vars x key = value_in_space x.space vars (var_of x) key
 
 abbrev pub set_in : Space → Variables → Var → List KeyPart → Value → Variables
-set_in Space.Thread vars var key value = set_own vars var key value
-set_in Space.Clause vars var key value = set_local vars var value
+set_in Space.Thread vars var key value = record vars { own = with_own vars.own var key value }
+set_in Space.Clause vars var key value = record vars { locals = with_local vars.locals var value }
 
 -- the variables once one was given a value of its kind at the key
 abbrev pub set : Variables → Variable → List KeyPart → Value → Variables

@@ -5,17 +5,17 @@ use Rattle.d_parser.specs.declared.tree.Variable.{Variable}
 use Rattle.d_types.specs.Vocabulary.{Int, DType, INT64, Kind, Space, MAX_KEYS, AssignOperator}
 use Rattle.d_types.specs.Variables.{Row, Rows, set_type}
 
--- ---- variables that are assigned
-
+-- how many keys a variable may have
 abbrev pub most_keys : Space → ℕ
 most_keys Space.Thread = MAX_KEYS
 most_keys Space.Clause = 0
 
--- gives a slot its type if it has none
+-- the table once a slot without a type has this one, if any
 abbrev pub settle_slot : Option DType → ℕ → Option DType → Rows → Rows
 settle_slot None slot (Some t) rows = set_type slot t rows
 settle_slot _ slot _ rows = rows
 
+-- a variable of this name, the type if it is known, and the kinds of its keys
 abbrev pub new_row : Space → List ℕ → Option DType → List Kind → Row
 new_row space name t kinds = record { space = space; word = name; keys = kinds; holds = t }
 

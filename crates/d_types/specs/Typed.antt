@@ -96,13 +96,18 @@ type_of (Strjoin a b) = DType.Text
 -- a comparison, or a logical operator
 type_of truth = DType.Int INT32
 
+-- the type of each
+abbrev pub types_of : Typeds → List DType
+types_of end = []
+types_of (more a rest) = type_of a ∷ types_of rest
+
 -- ---- statements and clauses
 
--- a statement over any expressions and lists of them
+-- A statement over any expressions and lists of them. What is printed has its type.
 pub data ActionOf (E Es : Type 0) : Type 0 where
   Evaluate : E → ActionOf E Es
-  Trace : E → ActionOf E Es
-  Print : List Piece → Es → ActionOf E Es
+  Trace : DType → E → ActionOf E Es
+  Print : List Piece → List DType → Es → ActionOf E Es
   Exit : E → ActionOf E Es
   Aggregate : (index : ℕ) (keys : Es) (argument : Option E) → ActionOf E Es
 
@@ -149,8 +154,9 @@ typed_argument (Some a) = Some (typed_of a)
 
 abbrev pub action_of : TypedStmt → Action
 action_of (TypedStmt.Evaluate a) = Evaluate (typed_of a)
-action_of (TypedStmt.Trace a) = Trace (typed_of a)
-action_of (TypedStmt.Print format arguments) = Print format.items (typeds_of arguments.items)
+action_of (TypedStmt.Trace a) = Trace (type_of (typed_of a)) (typed_of a)
+action_of (TypedStmt.Print format arguments) =
+    Print format.items (types_of (typeds_of arguments.items)) (typeds_of arguments.items)
 action_of (TypedStmt.Exit a) = Exit (typed_of a)
 action_of (TypedStmt.Aggregate index keys argument) =
     Aggregate index (typeds_of keys.items) (typed_argument argument)

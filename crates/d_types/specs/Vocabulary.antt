@@ -24,7 +24,7 @@ pub use Rattle.d_values.specs.Stores.{blank}
 pub use Rattle.d_values.specs.Texts.{text_cmp, joined_text, longest}
 pub use Rattle.d_values.specs.Types.{INT8, INT16, INT32, INT64, UINT8, UINT16, UINT32, UINT64}
 pub use Rattle.d_values.specs.Types.{common_of, promoted_of}
-pub use Rattle.d_values.specs.Words.{narrow, binary_of, shift_of, opposite_of, complement_of}
+pub use Rattle.d_values.specs.Words.{narrow, binary_of, shift_of}
 pub use Rattle.d_values.specs.Words.{order_of, sum_of, difference_of, divides}
 pub use Rattle.d_values.specs.declared.arithmetic.OutOfZero.{OutOfZero}
 pub use Rattle.d_values.specs.declared.int_type.DType.{DType}

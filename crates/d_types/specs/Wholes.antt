@@ -13,8 +13,8 @@ AnyIs Is (Some x) = Is x
 
 abbrev pub ActionIs : (Typed → Type 0) → Action → Type 0
 ActionIs Is (Evaluate x) = Is x
-ActionIs Is (Trace x) = Is x
-ActionIs Is (Print format args) = EachIs Is args
+ActionIs Is (Trace t x) = Is x
+ActionIs Is (Print format types args) = EachIs Is args
 ActionIs Is (Exit x) = Is x
 ActionIs Is (Aggregate index keys argument) = EachIs Is keys × AnyIs Is argument
 

@@ -2,7 +2,7 @@
 -- Source: Dynamic Tracing Guide, "Built-in Variables" and "Actions and Subroutines".
 use Rattle.std.specs.Prelude.{ℕ, ◌-◌, List, [], ◌∷◌, codes, Option, Some, None, ◌&&◌}
 use Rattle.std.specs.Prelude.{if◌then◌else◌}
-use Rattle.std.specs.{Char.is_ascii_digit, Map.lookup, Option.option_or}
+use Rattle.std.specs.{Char.is_ascii_digit, Map.lookup, Option.option_or, Str.byte}
 use Rattle.d_types.specs.Vocabulary.{bytes_eq, BuiltIn, Callee, AggFn, Aggregating}
 use Rattle.d_types.specs.declared.words.Aggregating.TheVariants.{Named, Lquantize}
 
@@ -10,7 +10,7 @@ use Rattle.d_types.specs.declared.words.Aggregating.TheVariants.{Named, Lquantiz
 abbrev pub argument : List ℕ → Option BuiltIn
 argument (a ∷ r ∷ g ∷ digit ∷ []) =
     if bytes_eq (a ∷ r ∷ g ∷ []) (codes "arg") && is_ascii_digit digit
-    then Some (BuiltIn.Argument (digit - 48)) else None
+    then Some (BuiltIn.Argument (digit - byte "0")) else None
 argument word = None
 
 abbrev pub built_ins : List (List ℕ × BuiltIn)

@@ -3,9 +3,11 @@
 ghost use Rattle.std.specs.Prelude.{◌≡◌, ◌++◌, ◌∷◌, [], IfOk, OnOk, Some, None, length, option_map};
 ghost use Rattle.d_types.specs.Vocabulary.{tree_of, trees_of};
 ghost use Rattle.d_types.specs.Steps.Faults.{Gives};
-ghost use Rattle.d_types.specs.Typed.{typed_of, typeds_of, action_of, aggs_of, Aggs, agg_of};
+ghost use Rattle.d_types.specs.Typed.{typed_of, typeds_of, types_of, action_of, aggs_of, Aggs};
+ghost use Rattle.d_types.specs.Typed.{agg_of};
 ghost use Rattle.d_types.specs.Variables.{kinds_of_typed};
 ghost use Rattle.d_types.specs.Steps.Variables.{rows_of_entries};
+ghost use Rattle.std.specs.List.{list_all};
 ghost use Rattle.d_types.specs.Aggregations as spec;
 ghost use Rattle.d_types.specs.Steps.Aggregations as steps;
 
@@ -148,7 +150,7 @@ fn is_integer(t: DType) -> bool
 }
 
 fn integers(args: &[TypedExpr]) -> bool
-    ensures { result ≡ spec.integers (typeds_of args.now) }
+    ensures { result ≡ list_all spec.is_integer (types_of (typeds_of args.now)) }
 {
     match args {
         [] => true,

@@ -6,7 +6,7 @@ ghost use Rattle.d_types.specs.Steps.Faults.{Gives};
 ghost use Rattle.d_types.specs.Variables.{find};
 ghost use Rattle.d_types.specs.Steps.Variables.{rows_of_entries};
 ghost use Rattle.d_types.specs.Steps.Scripts as spec;
-ghost use Rattle.d_types.specs.Constants.{declared_kinds};
+ghost use Rattle.d_types.specs.Steps.Scripts.{declared_kinds};
 
 use crate::constants::declared_type;
 use crate::fault::TypeFault;

@@ -35,7 +35,7 @@ pub fn kind_of(t: DType) -> Kind
 }
 
 fn is_named(entry: &Entry, space: Space, name: &[u8]) -> bool
-    ensures { result ≡ spec.names_row space name.now (steps.row_of_entry entry.now) }
+    ensures { result ≡ steps.names_row space name.now (steps.row_of_entry entry.now) }
 {
     entry.space == space && entry.name.as_slice() == name
 }

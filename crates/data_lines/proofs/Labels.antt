@@ -8,7 +8,8 @@ use Rattle.std.proofs.lemmas.Bool.{and_parts, cases_eq, cases_lt, leb-true, ltb-
 use Rattle.std.proofs.lemmas.Int.{ints}
 use Rattle.std.proofs.lemmas.Nat.{pow_below}
 use Rattle.data_lines.specs.Vocabulary.{LinearRange, Scale, Powers, Steps, buckets, label, levels_of}
-use Rattle.aggregations.specs.Ranges.{are_bounds, is_one_to}
+use Rattle.aggregations.specs.Ranges.{is_one_to}
+use Rattle.aggregations.proofs.RankLemmas.{are_bounds}
 use Rattle.aggregations.proofs.BucketLemmas.{high_label, low_label}
 
 power_step : (i : ℕ) → suc i < 127 → label Powers i <ℤ label Powers (suc i)

@@ -2,7 +2,7 @@
 
 ghost use Rattle.std.specs.Prelude.{◌≡◌, ◌++◌, ℕ, List, Option};
 ghost use Rattle.std.specs.List.{AllByRecursion};
-ghost use Rattle.replay_core.specs.Layouts.{ShowsEach};
+ghost use Rattle.replay_core.specs.Layouts.{IsDeterministic};
 ghost use Rattle.data_lines.specs.Vocabulary.{AggFn, Aggs, Entry, KeyPart};
 ghost use Rattle.data_lines.specs.{Layout.IsDataOf, Texts.text_value};
 ghost use Rattle.data_lines.specs.Values.{FitsHeld, FitsPart, key_value};
@@ -24,7 +24,7 @@ pub fn has_data()
 
 /// Each run has its data, and no other.
 pub fn each_run_has_data()
-    ensures { ShowsEach IsDataOf }
+    ensures { IsDeterministic IsDataOf }
 {}
 
 /// Each line has one line feed, at its end.

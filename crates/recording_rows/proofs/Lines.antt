@@ -13,7 +13,6 @@ use Rattle.firings.specs.declared.firing.Firing.{Firing}
 use Rattle.firing_reader.specs.Written.{WritesFiring, WritesTrace}
 use Rattle.recording_rows.specs.Steps.Rows.{after_commas, line_of}
 use Rattle.recording_rows.specs.Words.{is_plain_byte}
-use Rattle.firings.specs.Firings.{IsTrace}
 use Rattle.recording_rows.specs.Steps.Blocks.{IsHeading, IsWritten, rows_text}
 use Rattle.recording_rows.proofs.Plain.{as_it_is}
 

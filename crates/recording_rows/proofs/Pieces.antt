@@ -1,7 +1,6 @@
 -- Bytes put one piece after the other.
 use Rattle.std.proofs.Common.{◌≡◌, ℕ, List, [], ◌∷◌, ◌++◌, ap, refl, sym, ◌∙◌, append_assoc}
 use Rattle.std.specs.Prelude.{Result, Ok, Err, OnOk, is_ok, if◌then◌else◌}
-use Rattle.std.proofs.lemmas.List.{append-nil}
 use Rattle.recording_rows.specs.Steps.Rows.{after_commas}
 
 pub commas_more : (xs ys : List (List ℕ)) → after_commas (xs ++ ys) ≡ after_commas xs ++ after_commas ys
@@ -12,11 +11,6 @@ commas_more (x ∷ xs) ys = ap (λ (l : List ℕ). 44 ∷ l) (ap (λ (l : List �
 pub put_more : (old now after : List ℕ) (xs ys : List (List ℕ)) → now ≡ old ++ after_commas xs → after ≡ now ++ after_commas ys → after ≡ old ++ after_commas (xs ++ ys)
 put_more old now after xs ys was is =
     is ∙ ap (λ (l : List ℕ). l ++ after_commas ys) was ∙ append_assoc old (after_commas xs) (after_commas ys) ∙ ap (λ (l : List ℕ). old ++ l) (sym (commas_more xs ys))
-
--- a comma and a field
-pub put_one : (old now after x : List ℕ) → now ≡ old ++ 44 ∷ [] → after ≡ now ++ x → after ≡ old ++ after_commas (x ∷ [])
-put_one old now after x was is =
-    is ∙ ap (λ (l : List ℕ). l ++ x) was ∙ append_assoc old (44 ∷ []) x ∙ ap (λ (l : List ℕ). old ++ (44 ∷ l)) (sym (append-nil x))
 
 -- a number, its row's fields and the end of the line
 pub put_line : {E : Type 0} (r : Result (Unit {0}) E) (old one two three four after n : List ℕ) (a b c : List (List ℕ))

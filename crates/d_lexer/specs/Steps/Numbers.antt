@@ -3,7 +3,7 @@ use Rattle.std.specs.Prelude.{ℕ, ◌+◌, ◌*◌, ◌-◌, ◌^◌, nat_lt, �
 use Rattle.std.specs.Prelude.{List, [], ◌∷◌, Option, Some, None, option_and_then}
 use Rattle.d_lexer.specs.declared.token.Suffix.{Suffix, TheVariants.Absent}
 use Rattle.d_lexer.specs.declared.token.Suffix.TheVariants.{Unsigned, Long, UnsignedLong}
-use Rattle.std.specs.Char.{is_digit, digit_value}
+use Rattle.std.specs.{Char.is_digit, Char.digit_value, Str.byte}
 
 -- the value of a digit of the base
 abbrev pub digit_of : ℕ → ℕ → Option ℕ
@@ -11,13 +11,13 @@ digit_of base d = if is_digit d base then Some (digit_value d) else None
 
 -- letters, in either case
 abbrev pub is_u : ℕ → Bool
-is_u b = b == 117 || b == 85
+is_u b = b == byte "u" || b == byte "U"
 
 abbrev pub is_l : ℕ → Bool
-is_l b = b == 108 || b == 76
+is_l b = b == byte "l" || b == byte "L"
 
 abbrev pub is_x : ℕ → Bool
-is_x b = b == 120 || b == 88
+is_x b = b == byte "x" || b == byte "X"
 
 -- the suffix that the letters spell
 unfoldable pub suffix_by_letters : List ℕ → Option Suffix
@@ -69,4 +69,4 @@ zero_from (c ∷ ds) = if is_x c then hex_from ds else number_from 8 0 (c ∷ ds
 -- the number that a run of letters and digits spells
 unfoldable pub number_spelled : List ℕ → Option (ℕ × Suffix)
 number_spelled [] = None
-number_spelled (b ∷ ds) = if b == 48 then zero_from ds else number_from 10 (b - 48) ds
+number_spelled (b ∷ ds) = if b == byte "0" then zero_from ds else number_from 10 (b - byte "0") ds

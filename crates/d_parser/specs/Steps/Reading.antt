@@ -1,16 +1,14 @@
 -- Expressions as they are read: what is taken off the front of the tokens, level by level.
-use Rattle.std.specs.Prelude.{◌≡◌, ℕ, zero, suc, max, nat_le, Bool, true, false, if◌then◌else◌}
-use Rattle.std.specs.Prelude.{List, [], ◌∷◌, Option, Some, None, Result, Ok, Err}
+use Rattle.std.specs.Prelude.{ℕ, zero, suc, max, nat_le, Bool, true, false, if◌then◌else◌}
+use Rattle.std.specs.Prelude.{List, [], ◌∷◌, Option, Some, None}
 use Rattle.d_parser.specs.Vocabulary.{Mark, Token, TokenKind, Step, IntegerType, Constant, Variable}
 use Rattle.d_parser.specs.Vocabulary.{WordKind, ASSIGNMENT, CONDITION, OR, UNARY, Prefix, Follow}
-use Rattle.d_parser.specs.Vocabulary.{ParseFault}
 use Rattle.d_parser.specs.Tree.{Tree, Known, Read, Call, Unary, Cast, Before, After, Binary, Choice}
 use Rattle.d_parser.specs.Tree.{Assign, Trees, end, more}
 use Rattle.d_parser.specs.Steps.Tree.{add}
 use Rattle.d_parser.specs.Words.{word_kind}
 use Rattle.d_parser.specs.Steps.Words.{begins_type, run, after_run, integer_type}
-use Rattle.d_parser.specs.Steps.Marks.{level_of}
-use Rattle.d_parser.specs.Steps.Marks.{prefix_of, follow_at, is_at, same_mark, tail}
+use Rattle.d_parser.specs.Steps.Marks.{level_of, prefix_of, follow_at, is_at, same_mark, tail}
 
 infixl 10 ◌>>=◌
 abbrev pub ◌>>=◌ : {A B : Type 0} → Option A → (A → Option B) → Option B

@@ -2,10 +2,11 @@
 use Rattle.std.specs.Prelude.{◌==◌, ℕ, zero, suc, if◌then◌else◌, List, [], ◌∷◌, Option, Some, None}
 use Rattle.d_parser.specs.Vocabulary.{Description}
 use Rattle.d_parser.specs.Script.{is_ascii_digit}
+use Rattle.std.specs.Str.{byte}
 pub use Rattle.std.specs.List.{list_all}
 
 abbrev pub colon : ℕ
-colon = 58
+colon = byte ":"
 
 abbrev pub description_with : (a b c d : List ℕ) → Description
 description_with a b c d = record { provider = a; «module» = b; function = c; name = d }

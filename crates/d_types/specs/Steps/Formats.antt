@@ -1,6 +1,7 @@
 -- The pieces of a format, read from left to right.
 use Rattle.std.specs.Prelude.{ℕ, ◌+◌, ◌*◌, ◌-◌, ◌==◌, ◌||◌, nat_le, Bool, true, false}
 use Rattle.std.specs.Prelude.{if◌then◌else◌, List, [], ◌∷◌, ◌++◌, Option, Some, None}
+use Rattle.std.specs.Str.{byte}
 use Rattle.d_parser.specs.Script.{is_ascii_digit}
 use Rattle.d_types.specs.Vocabulary.{Letter, Piece, MAX_WIDTH, Flags, Place}
 
@@ -14,14 +15,14 @@ goes place = Some (place, None)
 abbrev pub ends : Piece → Turn
 ends p = Some (Place.Outside, Some p)
 
--- d i u x o s
+-- the letter that a byte is
 abbrev pub letter_of : ℕ → Option Letter
 letter_of b =
-    if b == 100 || b == 105 then Some Letter.Signed
-    else if b == 117 then Some Letter.Unsigned
-    else if b == 120 then Some Letter.Hexadecimal
-    else if b == 111 then Some Letter.Octal
-    else if b == 115 then Some Letter.Text
+    if b == byte "d" || b == byte "i" then Some Letter.Signed
+    else if b == byte "u" then Some Letter.Unsigned
+    else if b == byte "x" then Some Letter.Hexadecimal
+    else if b == byte "o" then Some Letter.Octal
+    else if b == byte "s" then Some Letter.Text
     else None
 
 abbrev pub with_letter : Flags → Option Letter → Turn
@@ -36,23 +37,23 @@ at_letter f b = with_letter f (letter_of b)
 -- before it perhaps a length: h, hh, l or ll
 abbrev pub at_length : Flags → ℕ → Turn
 at_length f b =
-    if b == 104 then goes (Place.Half f) else if b == 108 then goes (Place.Long f)
+    if b == byte "h" then goes (Place.Half f) else if b == byte "l" then goes (Place.Long f)
     else at_letter f b
 
 -- before it perhaps a width
 abbrev pub at_width : Flags → ℕ → Turn
 at_width f b =
     if is_ascii_digit b
-    then (if nat_le (f.width * 10 + (b - 48)) MAX_WIDTH
-    then goes (Place.Width (record f { width = f.width * 10 + (b - 48) }))
+    then (if nat_le (f.width * 10 + (b - byte "0")) MAX_WIDTH
+    then goes (Place.Width (record f { width = f.width * 10 + (b - byte "0") }))
     else None)
     else at_length f b
 
 -- before it perhaps flags: - and 0
 abbrev pub at_flags : Flags → ℕ → Turn
 at_flags f b =
-    if b == 45 then goes (Place.Flagged (record f { left = true }))
-    else if b == 48 then goes (Place.Flagged (record f { zeros = true }))
+    if b == byte "-" then goes (Place.Flagged (record f { left = true }))
+    else if b == byte "0" then goes (Place.Flagged (record f { zeros = true }))
     else at_width f b
 
 abbrev pub no_flags : Flags
@@ -60,12 +61,12 @@ no_flags = record { left = false; zeros = false; width = 0 }
 
 -- a percent sign begins a conversion, and two of them stand for one
 abbrev pub turn : Place → ℕ → Turn
-turn Place.Outside b = if b == 37 then goes Place.Opened else ends (Piece.Byte b)
-turn Place.Opened b = if b == 37 then ends (Piece.Byte 37) else at_flags no_flags b
+turn Place.Outside b = if b == byte "%" then goes Place.Opened else ends (Piece.Byte b)
+turn Place.Opened b = if b == byte "%" then ends (Piece.Byte (byte "%")) else at_flags no_flags b
 turn (Place.Flagged f) b = at_flags f b
 turn (Place.Width f) b = at_width f b
-turn (Place.Half f) b = if b == 104 then goes (Place.Sized f) else at_letter f b
-turn (Place.Long f) b = if b == 108 then goes (Place.Sized f) else at_letter f b
+turn (Place.Half f) b = if b == byte "h" then goes (Place.Sized f) else at_letter f b
+turn (Place.Long f) b = if b == byte "l" then goes (Place.Sized f) else at_letter f b
 turn (Place.Sized f) b = at_letter f b
 
 abbrev pub with_piece : List Piece → Option Piece → List Piece

@@ -1,18 +1,21 @@
 -- The typed tree of a script, or its first fault, as the code finds it.
 use Rattle.std.specs.Prelude.{ℕ, nat_le, if◌then◌else◌, List, [], ◌∷◌, ◌++◌, length, Option, Some}
-use Rattle.std.specs.Prelude.{None, Result, Ok}
+use Rattle.std.specs.Prelude.{None, Result, Ok, map}
 use Rattle.d_types.specs.Vocabulary.{Int, Text, DeclaredType, DeclarationTree, StmtTree, ItemTree}
-use Rattle.d_types.specs.Vocabulary.{Tree, ClauseTree, DType, MAX_NEED, MAX_KEYS, Space}
+use Rattle.d_types.specs.Vocabulary.{Tree, ClauseTree, DType, Kind, MAX_NEED, MAX_KEYS, Space}
 use Rattle.d_types.specs.Steps.Faults.{Fault, ◌>>=◌, refuse, Mismatch, Keys, NoRegister}
 use Rattle.d_types.specs.Typed.{Typed, type_of, Action, Aggs, ClauseMeant, ScriptMeant}
-use Rattle.d_types.specs.Variables.{Rows, find}
+use Rattle.d_types.specs.Variables.{Rows, find, kind_of_type}
 use Rattle.d_types.specs.Steps.Variables.{types_in}
-use Rattle.d_types.specs.Constants.{declared_type, declared_kinds}
+use Rattle.d_types.specs.Constants.{declared_type}
 use Rattle.d_types.specs.Needs.{need}
 use Rattle.d_types.specs.Steps.Statements.{action}
 use Rattle.d_types.specs.Steps.Aggregations.{aggregate}
 use Rattle.d_types.specs.Lines.{line_of}
 use Rattle.d_types.specs.Steps.Typing.{expr}
+
+abbrev pub declared_kinds : List DeclaredType → List Kind
+declared_kinds all = map (λ t. kind_of_type (declared_type t)) all
 
 -- a variable is declared before it is assigned, and once
 abbrev pub declare : Space → ℕ → List ℕ → DeclaredType → List DeclaredType → Rows → Option ℕ

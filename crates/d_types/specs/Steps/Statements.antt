@@ -2,7 +2,7 @@
 use Rattle.std.specs.Prelude.{ℕ, if◌then◌else◌, List, Option, Some, None, Result, Ok}
 use Rattle.d_types.specs.Vocabulary.{Int, Text, Trees, Tree, Constant, DType, Callee}
 use Rattle.d_types.specs.Steps.Faults.{Fault, ◌>>=◌, refuse, unless, Mismatch, PrintfArguments}
-use Rattle.d_types.specs.Typed.{Typed, Typeds, end, type_of, Action, Evaluate, Trace}
+use Rattle.d_types.specs.Typed.{Typed, Typeds, end, type_of, types_of, Action, Evaluate, Trace}
 use Rattle.d_types.specs.Steps.Typing.{with_typed}
 use Rattle.d_types.specs.Typed.{Print, Exit}
 use Rattle.d_types.specs.Steps.Formats.{pieces}
@@ -19,7 +19,8 @@ wholes done rows (Trees.more a rest) = whole rows a >>= λ x. wholes (with_typed
 -- one value of any type
 abbrev pub trace : ℕ → Rows → Trees → Result (Action × Rows) Fault
 trace line rows args =
-    wholes end rows args >>= λ k. unless Mismatch line (only k.0) >>= λ x. Ok (Trace x, k.1)
+    wholes end rows args >>= λ k. unless Mismatch line (only k.0) >>= λ x.
+    Ok (Trace (type_of x) x, k.1)
 
 abbrev pub exit_by : ℕ → DType → Typed → Rows → Result (Action × Rows) Fault
 exit_by line (Int t) x rows = Ok (Exit x, rows)
@@ -35,7 +36,7 @@ exit line rows args =
 abbrev pub print_with : ℕ → Rows → List ℕ → Trees → Result (Action × Rows) Fault
 print_with line rows format args =
     wholes end rows args >>= λ k. unless PrintfArguments line (pieces format) >>= λ ps.
-    if fit ps k.0 then Ok (Print ps k.0, k.1) else refuse PrintfArguments line
+    if fit ps k.0 then Ok (Print ps (types_of k.0) k.0, k.1) else refuse PrintfArguments line
 
 abbrev pub not_printed : ℕ → Rows → Trees → Result (Action × Rows) Fault
 not_printed line rows args = wholes end rows args >>= λ k. refuse PrintfArguments line

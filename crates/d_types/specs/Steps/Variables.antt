@@ -2,10 +2,15 @@
 use Rattle.std.specs.Prelude.{ℕ, Bool, true, false, ◌&&◌, List, [], ◌∷◌, map, Option}
 use Rattle.std.specs.Option.{option_map_or}
 use denote.Enum.Bare.{sameb}
-use Rattle.d_types.specs.Vocabulary.{Entry, DType, Kind}
+use Rattle.d_types.specs.Vocabulary.{bytes_eq, Entry, DType, Kind, Space}
+use Rattle.d_types.specs.contracts.typed.Space as space
 use Rattle.d_values.specs.contracts.value.Kind as kind
 use Rattle.d_types.specs.Typed.{Typeds, end, more, type_of}
 use Rattle.d_types.specs.Variables.{Row, Rows, kind_of_type, keys_at}
+
+-- the row is of this variable
+abbrev pub names_row : Space → List ℕ → Row → Bool
+names_row s w r = sameb space.the_type r.space s && bytes_eq r.word w
 
 abbrev pub row_of_entry : Entry → Row
 row_of_entry e = record { space = e.space; word = e.name; keys = e.keys.items; holds = e.holds }

@@ -1,7 +1,7 @@
 use Rattle.std.proofs.Common.{◌≡◌, ◌+◌, drop, Some, true, false, refl, sym, ◌∙◌}
 use Rattle.std.proofs.lemmas.List.{drop_all}
 use Rattle.std.specs.List.{position_from}
-use Rattle.d_types.specs.Variables.{names_row}
+use Rattle.d_types.specs.Steps.Variables.{names_row}
 use Rattle.d_types.specs.Steps.Variables.{rows_of_entries, row_of_entry}
 use Rattle.d_types.proofs.Tables.{front}
 use Rattle.d_types.proofs.variables.find.Goals as goal

@@ -1,6 +1,6 @@
 use Rattle.std.proofs.Common.{◌≡◌, drop}
 use Rattle.std.specs.List.{position_from}
-use Rattle.d_types.specs.Variables.{names_row}
+use Rattle.d_types.specs.Steps.Variables.{names_row}
 use Rattle.d_types.specs.Steps.Variables.{rows_of_entries}
 use Rattle.d_types.proofs.variables.find.Given as goal
 

@@ -1,4 +1,4 @@
-use Rattle.std.proofs.Common.{◌≡◌, ◌+◌, ◌++◌, ap, append_assoc, arith, subst, sym, ◌∙◌, ℕ, List}
+use Rattle.std.proofs.Common.{◌+◌, ◌++◌, ap, append_assoc, arith, subst, sym, ◌∙◌, ℕ, List}
 use Rattle.recording_rows.specs.Steps.Blocks.{IsWritten}
 use Rattle.recording_rows.proofs.Added.{row_added}
 use Rattle.recording_rows.proofs.rows.Rows.put.Goals as goal
