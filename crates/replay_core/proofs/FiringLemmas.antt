@@ -1,7 +1,7 @@
 -- What all_made make is what a firing means.
 use Rattle.std.specs.Prelude.{◌≡◌, ℕ, zero, suc, ◌+◌, ◌<◌, ◌≤◌, List, [], ◌∷◌, ◌++◌, All, filter}
 use Rattle.std.specs.Prelude.{map, length, slice_get, sum_by, Option, None, Some, option_map}
-use Rattle.std.specs.Prelude.{is_some, IfOk, Result, Ok, Err, Bool, true, false, if◌then◌else◌}
+use Rattle.std.specs.Prelude.{is_some, Bool, true, false, if◌then◌else◌}
 use Rattle.std.specs.Option.{option_or}
 use Rattle.std.proofs.Common.{refl, sym, ap, ◌∙◌, subst, arith, add-one, add-zero}
 use Rattle.std.proofs.Common.{length-append}
@@ -99,7 +99,3 @@ goes_on m f threads made old mid new is pushed notes = subst (λ r. GoesOnBy ((f
 pub some_same : {A : Type 0} (tell : ℕ → A) (o : Option ℕ) → is_some o ≡ is_some (option_or (option_map tell o) None)
 some_same tell None = refl
 some_same tell (Some status) = refl
-
-pub both : {T E : Type 0} (P Q : T → Type 0) (r : Result T E) → IfOk r P → IfOk r Q → IfOk r (λ x. P x × Q x)
-both P Q (Ok x) p q = (p, q)
-both P Q (Err e) p q = p

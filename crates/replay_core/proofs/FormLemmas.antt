@@ -3,13 +3,13 @@ use Rattle.std.specs.Prelude.{◌≡◌, ℕ, List, [], ◌∷◌, map, max, Opt
 use Rattle.std.proofs.Common.{refl, sym, ap, ◌∙◌}
 use Rattle.d_types.specs.Clauses.{by_trees, effect_by, run_by}
 use Rattle.d_types.specs.Storage.{Variables}
-use Rattle.d_types.specs.Typed.{action_of, actions_of, typed_argument}
+use Rattle.d_types.specs.Typed.{Print, action_of, actions_of, typed_argument, typeds_of, types_of}
 use Rattle.d_types.specs.declared.typed.TypedExpr.{TypedExpr}
 use Rattle.d_types.specs.declared.typed.TypedStmt.{TypedStmt}
 use Rattle.d_types.specs.declared.typed.TypedStmt.TheVariants as s
 use Rattle.firings.specs.declared.firing.Firing.{Firing}
 use Rattle.replay_core.specs.Bounds.{index_in, indices_among}
-use Rattle.replay_core.specs.Forms.{by_expressions, statement_form}
+use Rattle.replay_core.specs.Forms.{by_expressions, expression_type, statement_form}
 use Rattle.replay_core.specs.Steps.EffectRuns.{effect_then, ran_by, run_result, statements_by}
 use Rattle.replay_core.specs.Steps.EffectRuns.{where_predicate}
 use Rattle.replay_core.proofs.EffectRuns.{run_by_is}
@@ -27,11 +27,16 @@ indices_same (x ∷ rest) =
     ap (λ n. max n (indices_among (map statement_form rest))) (index_same x)
     ∙ ap (λ n. max (index_in (action_of x)) n) (indices_same rest)
 
+types_same : (all : List TypedExpr) → map expression_type all ≡ types_of (typeds_of all)
+types_same [] = refl
+types_same (e ∷ rest) = ap (λ l. expression_type e ∷ l) (types_same rest)
+
 module _ (f : Firing) where
   effect_same : (x : TypedStmt) (vars : Variables) → effect_by (by_expressions f) (statement_form x) vars ≡ effect_by (by_trees f) (action_of x) vars
   effect_same (s.Evaluate e) vars = refl
   effect_same (s.Trace e) vars = refl
-  effect_same (s.Print format arguments) vars = refl
+  effect_same (s.Print format arguments) vars =
+      ap (λ types. effect_by (by_expressions f) (Print format.items types arguments.items) vars) (types_same arguments.items)
   effect_same (s.Exit e) vars = refl
   effect_same (s.Aggregate index keys None) vars = refl
   effect_same (s.Aggregate index keys (Some e)) vars = refl

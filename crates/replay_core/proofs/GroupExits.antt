@@ -10,32 +10,13 @@ use Rattle.d_types.specs.Clauses.{Made}
 use Rattle.firings.specs.declared.firing.Firing.{Firing}
 use Rattle.replay_core.specs.Meaning.{exit_of}
 use Rattle.replay_core.specs.Uniting.{sooner, first_exit}
-use Rattle.replay_core.proofs.GroupSums.{truth, AllIn, own_group, part, passed, taken}
+use Rattle.replay_core.proofs.GroupSums.{AllIn, own_group, part, passed, taken}
 use Rattle.replay_core.proofs.GroupTexts.{Over, Climbs, over_less, over_climbs, over_part}
 
 -- the exit has a greater number, if there is one
 abbrev pub Later : ℕ → Option (ℕ × ℕ) → Type 0
 Later n None = Unit {0}
 Later n (Some exit) = n < exit.0
-
-pub sooner_none : (x : Option (ℕ × ℕ)) → sooner x None ≡ x
-sooner_none None = refl
-sooner_none (Some e) = refl
-
-pub sooner_assoc : (x y z : Option (ℕ × ℕ)) → sooner (sooner x y) z ≡ sooner x (sooner y z)
-sooner_assoc None y z = refl
-sooner_assoc (Some a) None z = refl
-sooner_assoc (Some a) (Some b) None = sooner_none (sooner (Some a) (Some b))
-sooner_assoc (Some a) (Some b) (Some c) = ⊎_elim
-    (λ (ba : ltb b.0 a.0 ≡ true). ⊎_elim
-    (λ (cb : ltb c.0 b.0 ≡ true). grind arith)
-    (λ (cb : ltb c.0 b.0 ≡ false). grind arith)
-    (truth (ltb c.0 b.0)))
-    (λ (ba : ltb b.0 a.0 ≡ false). ⊎_elim
-    (λ (cb : ltb c.0 b.0 ≡ true). grind arith)
-    (λ (cb : ltb c.0 b.0 ≡ false). grind arith)
-    (truth (ltb c.0 b.0)))
-    (truth (ltb b.0 a.0))
 
 -- an exit stays the first before and after later ones
 stays_before : (e : ℕ × ℕ) (x : Option (ℕ × ℕ)) → Later e.0 x → sooner (Some e) x ≡ Some e

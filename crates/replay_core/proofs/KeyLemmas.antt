@@ -57,7 +57,7 @@ module _ (old new : List (List ℕ)) (kept : Keeps old new) where
 -- an object that has no value
 pub part_faults : (f : Firing) (objects rest : List TypedObject) (object : TypedObject) (before made : List KeyPart) (e : EvalFault) (o : Outcome (List KeyPart)) (vars after : Variables)
     → objects ≡ object ∷ rest → Returns {A = Value} (value_of f object.object vars) (Err e) after
-    → with (key_of_objects f objects vars) (λ key. Has (before ++ key)) ≡ o → IsMadeKey o (Err e) made after
+    → with (key_of_objects f objects vars) (λ key. Has (before ++ key)) ≡ o → IsMadeKey {A = ℕ} o (Err e) made after
 part_faults f objects rest object before made EvalFault.DivideByZero o vars after there faults is =
     sym is ∙ ap (λ os. with (key_of_objects f os vars) (λ key. Has (before ++ key))) there
     ∙ ap (λ q. with (with q (λ v vars. with (key_of_objects f rest vars) (λ key. Has (part_of v ∷ key)))) (λ key. Has (before ++ key))) faults

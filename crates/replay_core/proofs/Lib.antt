@@ -7,6 +7,7 @@ pub mod Turning
 pub mod EffectLemmas
 pub mod EffectRuns
 pub mod StateLemmas
+pub mod PieceLemmas
 pub mod SelectionLemmas
 pub mod ThreadLemmas
 pub mod WordLemmas

@@ -1,12 +1,10 @@
 -- What is noted, one after the other.
-use Rattle.std.specs.Prelude.{◌≡◌, ℕ, List, [], ◌∷◌, ◌++◌, map, Bool, true, false, ◌||◌, Option}
-use Rattle.std.specs.Prelude.{None, Some, option_map, is_some}
+use Rattle.std.specs.Prelude.{◌≡◌, ℕ, List, [], ◌∷◌, ◌++◌, map, Option, None, Some, option_map}
 use Rattle.std.specs.Option.{option_or}
 use Rattle.std.proofs.Common.{refl, sym, ap, ◌∙◌, subst, append_assoc}
 use Rattle.std.proofs.lemmas.List.{map-append}
 use Rattle.aggregations.specs.Table.{StandsFor}
-use Rattle.d_types.specs.Clauses.{Made}
-use Rattle.d_types.specs.Clauses.{nothing_made, and_then}
+use Rattle.d_types.specs.Clauses.{Made, nothing_made, and_then}
 use Rattle.d_types.specs.Storage.{Variables}
 use Rattle.replay_core.specs.Pieces.{PieceSeen}
 use Rattle.replay_core.specs.Lanes.{Notes}

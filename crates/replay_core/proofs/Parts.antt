@@ -14,8 +14,8 @@ use Rattle.shard_queue.specs.declared.groups.Groups.{Groups}
 use Rattle.shard_queue.specs.Groups.{grouping}
 use Rattle.shard_queue.specs.declared.claim_seat.ClaimSeat.{ClaimSeat}
 use Rattle.shard_queue.specs.declared.board.ClaimBoard.{ClaimBoard}
-use Rattle.shard_queue.specs.Boards.{IsAt, claim_numbers, least_lowered, least_seen, number_lowered}
-use Rattle.shard_queue.specs.Boards.{number_seen, claim_seats_at_end}
+use Rattle.shard_queue.specs.Boards.{IsAt, claim_numbers, claim_seats_at_end, least_lowered}
+use Rattle.shard_queue.specs.Boards.{least_seen, number_lowered, number_seen}
 use Rattle.shard_queue.specs.Hands.{IsHandOut}
 use Rattle.shard_queue.proofs.Lists.{all_cons}
 use Rattle.replay_core.specs.declared.lanes.piece.Piece.{Piece}
@@ -115,7 +115,7 @@ all_flat Q [] each = λ k d lt. absurd (omega arith)
 all_flat Q (p ∷ ps) each = All-append Q p.0.items (flat_map (λ q. q.0.items) ps) (each 0 p (omega arith)) (all_flat Q ps (λ k d lt. each (suc k) d (omega arith)))
 
 pub given_pieces : (s : Span) (runs : ScriptMeant → Type 0) (groups : Groups) (trace : List Firing) (pieces : List (ℕ × Piece)) (seats : List ClaimSeat)
-    → AreParts (GivesPieces s runs groups trace) pieces seats → AreOfGroups runs (grouping groups) (firings_in s trace) pieces
+    → AreParts (GivesPieces runs groups (firings_in s trace)) pieces seats → AreOfGroups runs (grouping groups) (firings_in s trace) pieces
 given_pieces s runs groups trace pieces seats are = record {
   each = λ m is. subst (λ ps. All (IsOfGroup m (grouping groups) (firings_in s trace)) ps) (sym are.all) (all_flat (IsOfGroup m (grouping groups) (firings_in s trace)) are.parts (λ k d lt. (are.each k d lt).each m is));
   roomy = subst (λ ps. All (λ p. IsRoomy p.1) ps) (sym are.all) (all_flat (λ p. IsRoomy p.1) are.parts (λ k d lt. (are.each k d lt).roomy));
@@ -145,14 +145,14 @@ seen_at (s ∷ ss) zero d lt = omega arith
 seen_at (s ∷ ss) (suc k) d lt = let more = seen_at ss k d (omega arith) in omega arith
 
 module _ (runs : ScriptMeant → Type 0) (groups : Groups) (trace : List Firing) where
-  lowered_least : (ps : List Part) → All (GivesBegun runs groups trace) ps → least_lowered (map (λ p. p.1) ps) ≡ least_exit (flat_map (λ p. p.0.items) ps)
+  lowered_least : (ps : List Part) → All (GivesBegun number_seen number_lowered runs groups trace) ps → least_lowered (map (λ p. p.1) ps) ≡ least_exit (flat_map (λ p. p.0.items) ps)
   lowered_least [] each = refl
   lowered_least (p ∷ ps) each =
       let here = (each 0 p (omega arith)).1 in
       let more = lowered_least ps (λ k d lt. each (suc k) d (omega arith)) in
       ap (λ n. min n (least_lowered (map (λ q. q.1) ps))) here ∙ ap (λ n. min (least_exit p.0.items) n) more ∙ sym (least_append p.0.items (flat_map (λ q. q.0.items) ps))
 
-  begun_each : (m : ScriptMeant) → runs m → (least : ℕ) (ps : List Part) → least ≤ least_seen (map (λ p. p.1) ps) → All (GivesBegun runs groups trace) ps
+  begun_each : (m : ScriptMeant) → runs m → (least : ℕ) (ps : List Part) → least ≤ least_seen (map (λ p. p.1) ps) → All (GivesBegun number_seen number_lowered runs groups trace) ps
       → All (λ p. All (IsBegunOf m least (grouping groups) (with_ends trace trace)) p.0.items) ps
   begun_each m is least [] le each = λ k d lt. absurd (omega arith)
   begun_each m is least (p ∷ ps) le each =
@@ -161,7 +161,7 @@ module _ (runs : ScriptMeant → Type 0) (groups : Groups) (trace : List Firing)
       (begun_each m is least ps (omega arith) (λ j e in'. each (suc j) e (omega arith)))
 
   -- round one's pieces are beginnings by the least number, and that is the least of their exits
-  pub given_begun : (least : ℕ) (pieces : List (ℕ × Piece)) (seats : List ClaimSeat) → AreParts (GivesBegun runs groups trace) pieces seats
+  pub given_begun : (least : ℕ) (pieces : List (ℕ × Piece)) (seats : List ClaimSeat) → AreParts (GivesBegun number_seen number_lowered runs groups trace) pieces seats
       → least ≡ least_lowered seats → least ≤ least_seen seats → AreBegun runs least (grouping groups) (with_ends trace trace) pieces × (least ≡ least_exit pieces)
   given_begun least pieces seats are low seen_low = (
     record {

@@ -31,8 +31,8 @@ above_all (index ∷ indices) = max (above index) (above_all indices)
 
 index_above : {E Es : Type 0} (a : ActionOf E Es) → index_in a ≡ above (aggregation_of a)
 index_above (Evaluate x) = refl
-index_above (Trace x) = refl
-index_above (Print format arguments) = refl
+index_above (Trace t x) = refl
+index_above (Print format types arguments) = refl
 index_above (Exit x) = refl
 index_above (Aggregate index keys argument) = refl
 

@@ -46,11 +46,3 @@ none_at_all (r ∷ rest) taken =
     ne_eqb (length (r ∷ rest)) 0 some ∙ sym (ne_eqb (length (indices_in_turn (r ∷ rest))) 0 some_in_turn)
 
 -- ---- indices that are taken
-
--- a clause that runs some times runs once and then the other times
-pub once_taken : (index times : ℕ) (rest : List Repeat) → 0 < times
-    → indices_in_turn (repeat_of index times ∷ rest) ≡ index ∷ indices_in_turn (repeat_of index (times - 1) ∷ rest)
-once_taken index zero rest some = absurd (omega arith)
-once_taken index (suc n) rest some =
-    let less : suc n - 1 ≡ n = omega arith in
-    ap (λ k. index ∷ indices_in_turn (repeat_of index k ∷ rest)) (sym less)

@@ -5,22 +5,20 @@ use Rattle.std.specs.List.Sorted.{IsStrictlyIncreasing}
 use Rattle.d_types.specs.Typed.{ScriptMeant, has_exit}
 use Rattle.firings.specs.declared.firing.Firing.{Firing}
 use Rattle.firings.specs.Ends.{end_of, with_ends}
-use Rattle.firings.specs.Firings.{number_of}
-use Rattle.firings.specs.Firings.{IsTrace}
+use Rattle.firings.specs.Firings.{number_of, IsTrace}
 use Rattle.shard_queue.specs.declared.groups.Groups.{Groups}
+use Rattle.shard_queue.specs.Boards.{number_lowered, number_seen}
 use Rattle.shard_queue.specs.Groups.{AreOf, grouping}
 use Rattle.shard_queue.specs.Least.{no_number}
 use Rattle.shard_queue.specs.Threads.{run_threads}
-use Rattle.replay_core.specs.declared.lanes.piece.Piece.{Piece}
 use Rattle.replay_core.specs.declared.workers.round.Round.{Round}
 use Rattle.replay_core.specs.declared.workers.span.Span.{Span}
 use Rattle.replay_core.specs.declared.workers.span.Span.TheVariants as span
 use Rattle.replay_core.specs.Beginnings.{IsBegunOf, exit_over}
 use Rattle.replay_core.specs.AtBoard.{GivesBegun, GivesPieces, IsRound}
 use Rattle.replay_core.specs.Steps.AtBoard.{IsRun}
-use Rattle.replay_core.specs.Exit.{first_exit_number, firings_over, up_to}
+use Rattle.replay_core.specs.Exit.{first_exit_number, firings_over}
 use Rattle.replay_core.specs.Groups.{AreGrouped}
-use Rattle.replay_core.specs.Meaning.{exit_of, history, blank_threads}
 use Rattle.replay_core.specs.Working.{IsOfGroup, firings_in}
 use Rattle.replay_core.proofs.Parts.{given_begun, given_pieces}
 use Rattle.replay_core.proofs.RoundOne.{least_none, least_some, none_least, pieces_whole}
@@ -49,7 +47,7 @@ module _ (m : ScriptMeant) (groups : Groups) (trace : List Firing) (is : IsTrace
   over_few = let s = span_over m trace is in subst (λ (fs : List Firing). length fs ≤ 1000002) s.1 (counted_few s.0 trace is)
 
 -- a round over all firings, where no script that is run has an exit
-pub plain_round : (runs : ScriptMeant → Type 0) (groups : Groups) (trace : List Firing) (r : Round) → IsRound (GivesPieces span.All runs groups trace) (grouping groups).count r
+pub plain_round : (runs : ScriptMeant → Type 0) (groups : Groups) (trace : List Firing) (r : Round) → IsRound (GivesPieces runs groups (firings_in span.All trace)) (grouping groups).count r
     → ((m : ScriptMeant) → runs m → has_exit m ≡ false) → IsRun runs groups trace r
 plain_round runs groups trace r round without =
     let made = given_pieces span.All runs groups trace r.pieces.items round.seats round.parts in
@@ -61,7 +59,7 @@ plain_round runs groups trace r round without =
     }
 
 module _ (runs : ScriptMeant → Type 0) (groups : Groups) (trace : List Firing) (is : IsTrace trace) (placed : AreOf groups (run_threads trace)) (first : Round)
-    (round : IsRound (GivesBegun runs groups trace) (grouping groups).count first) where
+    (round : IsRound (GivesBegun number_seen number_lowered runs groups trace) (grouping groups).count first) where
   grouped : AreGrouped (grouping groups) (with_ends trace trace)
   grouped = subst (AreGrouped (grouping groups)) (all_count (with_ends trace trace)) (counted_grouped span.All groups trace placed)
 
@@ -100,7 +98,7 @@ module _ (runs : ScriptMeant → Type 0) (groups : Groups) (trace : List Firing)
 
   -- round two, up to the least number
   pub two_rounds : first.least ≢ no_number → (end : ℕ) → end ≡ (end_of trace).number → (second : Round)
-      → IsRound (GivesPieces (span.UpTo first.least end) runs groups trace) (grouping groups).count second → IsRun runs groups trace second
+      → IsRound (GivesPieces runs groups (firings_in (span.UpTo first.least end) trace)) (grouping groups).count second → IsRun runs groups trace second
   two_rounds some end same second again =
       let given = given_begun runs groups trace first.least first.pieces.items round.seats round.parts round.lowered round.seen in
       let fs = with_ends trace trace in

@@ -1,21 +1,17 @@
 -- Runs, one firing after the other.
-use Rattle.std.specs.Prelude.{◌≡◌, ℕ, List, [], ◌∷◌, ◌++◌, map, Bool, true, false, if◌then◌else◌}
-use Rattle.std.specs.Prelude.{Option, None, Some, is_some, option_map}
-use Rattle.std.specs.List.{flat_map}
+use Rattle.std.specs.Prelude.{◌≡◌, List, [], ◌∷◌, ◌++◌, map, Option, None, Some, option_map}
 use Rattle.std.specs.Option.{option_or}
-use Rattle.std.proofs.Common.{refl, sym, ap, ◌∙◌, subst, append_assoc}
+use Rattle.std.proofs.Common.{refl, sym, ap, ◌∙◌, subst}
 use Rattle.std.proofs.lemmas.Grind.{flat_map-append}
 use Rattle.std.proofs.lemmas.List.{map-append}
-use Rattle.aggregations.specs.Table.{StandsFor, functions_of}
+use Rattle.aggregations.specs.Table.{StandsFor}
 use Rattle.d_types.specs.Clauses.{Made}
 use Rattle.d_types.specs.Typed.{ScriptMeant}
 use Rattle.firings.specs.declared.firing.Firing.{Firing}
 use Rattle.firings.specs.Firings.{number_of}
 use Rattle.replay_core.specs.Lanes.{Fires, LaneSeen}
 use Rattle.replay_core.specs.Meaning.{Threads, contributions_of, exit_of, history, firing_result}
-use Rattle.replay_core.specs.Meaning.{numbers_of, texts_of, threads_after, blank_threads}
-use Rattle.replay_core.specs.Pieces.{IsPieceOf, PieceSeen}
-use Rattle.replay_core.proofs.FiringLemmas.{some_same}
+use Rattle.replay_core.specs.Meaning.{texts_of, threads_after, blank_threads}
 use Rattle.replay_core.specs.Running.{IsLaneOf, threads_over}
 
 -- ---- a history in two parts

@@ -9,14 +9,14 @@ use Rattle.firings.specs.Firings.{number_of}
 use Rattle.replay_core.specs.Groups.{Grouping, AreGrouped, over_groups}
 use Rattle.replay_core.specs.Meaning.{contributions_of, exit_of, history, numbers_of, texts_of}
 use Rattle.replay_core.specs.Meaning.{blank_threads}
-use Rattle.replay_core.specs.Uniting.{Unite, first_exit, group_history, with_number}
+use Rattle.replay_core.specs.Uniting.{GroupsMakeUp, first_exit, group_history, with_number}
 use Rattle.replay_core.proofs.GroupSums.{flat_same, part, parts_read}
 use Rattle.replay_core.proofs.GroupTexts.{climbs_history, group_in, grouped_history, texts_in_order}
 use Rattle.replay_core.proofs.GroupTexts.{texts_unite}
 use Rattle.replay_core.proofs.GroupExits.{exits_unite, map_same}
 use Rattle.replay_core.proofs.Restricting.{group_restricts}
 
-pub groups_unite : (m : ScriptMeant) (grouping : Grouping) (fs : List Firing) → AreGrouped grouping fs → IsStrictlyIncreasing (map number_of fs) → Unite m grouping fs
+pub groups_unite : (m : ScriptMeant) (grouping : Grouping) (fs : List Firing) → AreGrouped grouping fs → IsStrictlyIncreasing (map number_of fs) → GroupsMakeUp m grouping fs
 groups_unite m grouping fs grouped rises =
     let n = grouping.count in
     let r = history m fs blank_threads in

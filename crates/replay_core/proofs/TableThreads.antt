@@ -7,7 +7,7 @@ use Rattle.std.proofs.lemmas.Bool.Decides.{Decides-int_eq}
 use Rattle.std.proofs.lemmas.Cmp.{int_eq_equiv}
 use Rattle.d_values.specs.Stores.{Locals, Own, own_of}
 use Rattle.d_types.specs.Storage.{variables}
-use Rattle.replay_core.specs.Meaning.{Threads, at_start, blank_threads}
+use Rattle.replay_core.specs.Meaning.{at_start, blank_threads}
 use Rattle.replay_core.specs.Threads.{StoreSeen, own_in, threads_of}
 
 -- what is seen of these tables

@@ -12,9 +12,7 @@ use Rattle.std.proofs.lemmas.Option.{slice_get-get_or}
 use Rattle.d_types.specs.Typed.{ScriptMeant}
 use Rattle.firings.specs.declared.firing.Firing.{Firing}
 use Rattle.firings.specs.Ends.{begin_of, end_of, with_ends}
-use Rattle.firings.specs.Firings.{HasRanges, IsFiring, number_of, thread_of}
-use Rattle.firings.specs.Firings.{IsTrace, last_number}
-use Rattle.firings.proofs.EndRanges.{ends}
+use Rattle.firings.specs.Firings.{IsFiring, number_of, thread_of, IsTrace, last_number}
 use Rattle.shard_queue.specs.declared.groups.Groups.{Groups}
 use Rattle.shard_queue.specs.Groups.{AreOf, grouping}
 use Rattle.shard_queue.specs.Least.{no_number}
@@ -30,12 +28,6 @@ use Rattle.replay_core.proofs.ExitLemmas.{Rises, rises_less, trace_rises}
 
 pub threads_are : (trace : List Firing) → map thread_of (with_ends trace trace) ≡ run_threads trace
 threads_are trace = ap (λ l. thread_zero ∷ l) (map-append thread_of trace (end_of trace ∷ []))
-
-pub all_range : (trace : List Firing) → IsTrace trace → All HasRanges (with_ends trace trace)
-all_range trace is =
-    let both = ends trace is in
-    all_cons HasRanges (begin_of trace) (trace ++ end_of trace ∷ []) both.0
-    (All-append HasRanges trace (end_of trace ∷ []) (λ k d lt. (is.firings k d lt).ranges) (all_cons HasRanges (end_of trace) [] both.1 (λ k d lt. absurd (omega arith))))
 
 pub run_few : (trace : List Firing) → IsTrace trace → length (with_ends trace trace) ≤ 1000002
 run_few trace is = let few = is.few in let len = length-append trace (end_of trace ∷ []) in omega arith

@@ -27,8 +27,8 @@ use Rattle.d_types.specs.Typed.{functions_in}
 
 index_below : (aggs : Aggs) (a : Action) → IsProperAction aggs a → index_in a ≤ length aggs
 index_below aggs (Evaluate x) is = omega arith
-index_below aggs (Trace x) is = omega arith
-index_below aggs (Print format arguments) is = omega arith
+index_below aggs (Trace t x) is = omega arith
+index_below aggs (Print format types arguments) is = omega arith
 index_below aggs (Exit x) is = omega arith
 index_below aggs (Aggregate index keys argument) is = omega (arith, is.0)
 

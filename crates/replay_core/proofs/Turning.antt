@@ -83,15 +83,15 @@ module _ (f : Firing) (cs : List ClauseMeant) where
         continues_more all left index before now after old new next exits (exits || more) run so_far.1 runs (sym here.variables) here.notes (ap (λ b. exits || b) here.exited),
       )
 
-  -- none is left
-  pub continues_all : (all : List ℕ) (before now : Variables) (old new : PieceSeen) (exits : Bool) → Continues f cs all [] before now old new exits
-      → Notes f.number (all_made f cs all before) old new × (now ≡ (all_made f cs all before).variables)
-  continues_all all before now old new exits c = (c.notes new (notes_nothing f.number now new), c.variables)
-
   or_false : (b : Bool) → b ≡ (b || false)
   or_false true = refl
   or_false false = refl
 
-  pub exits_all : (all : List ℕ) (before now : Variables) (old new : PieceSeen) (exits : Bool) → Continues f cs all [] before now old new exits
-      → exits ≡ is_some (all_made f cs all before).exit
-  exits_all all before now old new exits c = or_false exits ∙ c.told
+  -- none is left
+  pub continues_all : (all : List ℕ) (before now : Variables) (old new : PieceSeen) (exits : Bool) → Continues f cs all [] before now old new exits
+      → NotesRun f.number (all_made f cs all before) old new now exits
+  continues_all all before now old new exits c = record {
+    notes = c.notes new (notes_nothing f.number now new);
+    variables = c.variables;
+    exited = or_false exits ∙ c.told;
+  }

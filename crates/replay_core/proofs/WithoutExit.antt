@@ -4,10 +4,10 @@ use Rattle.std.specs.Prelude.{false, ◌||◌, if◌then◌else◌, Option, None
 use Rattle.std.specs.Prelude.{unwrap_or}
 use Rattle.std.specs.List.{list_any}
 use Rattle.std.specs.Option.{option_or}
-use Rattle.std.proofs.Common.{refl, sym, ap, ◌∙◌, subst}
+use Rattle.std.proofs.Common.{refl, sym, ap, ◌∙◌}
 use Rattle.d_types.specs.declared.effect.Effect.{Effect}
 use Rattle.d_types.specs.declared.effect.Effect.TheVariants as ef
-use Rattle.d_types.specs.Typed.{Typed, Typeds, ActionOf, Action, Evaluate, Trace, Print, Exit}
+use Rattle.d_types.specs.Typed.{Typed, Typeds, Action, Evaluate, Trace, Print, Exit}
 use Rattle.d_types.specs.Typed.{Aggregate, ClauseMeant, ScriptMeant, has_exit, is_exit}
 use Rattle.d_types.specs.Storage.{Variables}
 use Rattle.d_types.specs.Expressions.{Outcome, Has, Faults, with, number_outcome}
@@ -53,8 +53,8 @@ skipped (ef.Exits status) rest stays = absurd stays
 module _ (by : Evaluation Typed Typeds) where
   effect_goes : (a : Action) (vars : Variables) → is_exit a ≡ false → Goes (effect_by by a vars)
   effect_goes (Evaluate a) vars without = goes_with (by.value a vars) _ (λ x vars. tt)
-  effect_goes (Trace a) vars without = goes_with (by.value a vars) _ (λ x vars. tt)
-  effect_goes (Print format arguments) vars without = goes_with (by.values arguments vars) _ (λ x vars. tt)
+  effect_goes (Trace t a) vars without = goes_with (by.value a vars) _ (λ x vars. tt)
+  effect_goes (Print format types arguments) vars without = goes_with (by.values types arguments vars) _ (λ x vars. tt)
   effect_goes (Exit a) vars without = absurd (let c : true ≡ false = without in cc)
   effect_goes (Aggregate index keys argument) vars without =
       goes_with (by.key keys vars) _ (λ key vars. goes_with (argument_by by argument vars) _ (λ z vars. tt))

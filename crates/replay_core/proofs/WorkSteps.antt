@@ -1,8 +1,7 @@
 -- Steps of a worker.
-use Rattle.std.proofs.Common.{◌≡◌, ℕ, zero, suc, ◌+◌, ◌<◌, ◌≤◌, Bool, true, false, cond, List, []}
+use Rattle.std.proofs.Common.{◌≡◌, ℕ, zero, suc, ◌+◌, ◌<◌, ◌≤◌, true, false, cond, List, []}
 use Rattle.std.proofs.Common.{◌∷◌, ◌++◌, Some, All, map, filter, length, take, drop, get_or}
-use Rattle.std.proofs.Common.{slice_get, refl, sym, ap, ◌∙◌, subst, arith, append-nil}
-use Rattle.std.specs.List.{flat_map}
+use Rattle.std.proofs.Common.{slice_get, sym, ap, ◌∙◌, subst, arith, append-nil}
 use Rattle.std.proofs.lemmas.List.{map-append}
 use Rattle.std.proofs.lemmas.List.Concat.{flat_map-append}
 use Rattle.std.proofs.lemmas.List.Elements.{filter-append}
@@ -15,7 +14,6 @@ use Rattle.replay_core.specs.Lanes.{LaneSeen}
 use Rattle.replay_core.specs.Running.{IsLaneOf}
 use Rattle.replay_core.specs.Working.{is_in}
 use Rattle.replay_core.specs.Steps.Working.{firings_at}
-use Rattle.replay_core.proofs.TraceRuns.{few_kept}
 
 -- ---- indices
 
@@ -53,12 +51,6 @@ few_at fs (suc i) (p ∷ indices) = first (drop p fs) (few_at fs i indices)
     first : (l : List Firing) → length (firings_at fs (take i indices)) ≤ i → length (take 1 l ++ firings_at fs (take i indices)) ≤ suc i
     first [] le = omega arith
     first (x ∷ l) le = omega arith
-
-pub few_run : (span : Span) (fs : List Firing) (i : ℕ) (indices : List ℕ) → length (filter (is_in span) (firings_at fs (take i indices))) ≤ i
-few_run span fs i indices =
-    let a = few_kept (is_in span) (firings_at fs (take i indices)) in
-    let b = few_at fs i indices in
-    omega arith
 
 -- ---- a firing that counts, and one that doesn't
 

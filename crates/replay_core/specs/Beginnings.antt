@@ -38,20 +38,20 @@ pub record IsBegun (m : ScriptMeant) (seen : ℕ) (all : List Firing) (p : Piece
   pub piece : IsPieceOf m fired (piece_seen p)
 
 abbrev pub IsBegunOf : ScriptMeant → ℕ → Grouping → List Firing → ℕ × Piece → Type 0
-IsBegunOf m seen grouping fs p = IsBegun m seen (of_group grouping p.0 fs) p.1
+IsBegunOf m seen grouping fs (g, piece) = IsBegun m seen (of_group grouping g fs) piece
 
 -- each piece is so for each meaning of the script, and holds few enough contributions
 pub record AreBegun (runs : ScriptMeant → Type 0) (seen : ℕ) (grouping : Grouping)
     (fs : List Firing) (pieces : List (ℕ × Piece)) : Type 0 where
   pub each : (m : ScriptMeant) → runs m → All (IsBegunOf m seen grouping fs) pieces
-  pub roomy : All (λ p. IsRoomy p.1) pieces
+  pub roomy : All (λ (g, piece). IsRoomy piece) pieces
 
 -- a number, or that of the exit where it is less
 abbrev pub lesser_of : ℕ → Option (ℕ × ℕ) → ℕ
 lesser_of number None = number
-lesser_of number (Some exit) = min number exit.0
+lesser_of number (Some (other, status)) = min number other
 
 -- the least number of the pieces' exits, 2^64 - 1 without any
 abbrev pub least_exit : List (ℕ × Piece) → ℕ
 least_exit [] = no_number
-least_exit (p ∷ ps) = lesser_of (least_exit ps) p.1.exit
+least_exit ((g, piece) ∷ others) = lesser_of (least_exit others) piece.exit

@@ -7,13 +7,13 @@ use Rattle.replay_core.specs.declared.collect_fault.CollectFault.{CollectFault}
 use Rattle.replay_core.specs.declared.collect_fault.CollectFault.TheVariants.{Twice, Stranger}
 use Rattle.replay_core.specs.declared.collect_fault.CollectFault.TheVariants.{Missing, Memory}
 use Rattle.replay_core.specs.{Tables.Table}
-use Rattle.replay_core.specs.{Tables.Serve, Uniting.IsSorted, Uniting.first_exit}
+use Rattle.replay_core.specs.{Tables.Refine, Uniting.IsSorted, Uniting.first_exit}
 
 -- the whole has the texts of these pieces, sorted by number, one table in place of theirs, the
 -- numbers of each piece, and the first exit
 pub record IsMadeOf (pieces : List Piece) (w : Whole) : Type 0 where
   pub texts : IsSorted (flat_map (λ p. p.events.items) pieces) w.events.items
-  pub table : Serve (w.table ∷ []) (map (λ p. p.table) pieces)
+  pub table : Refine (w.table ∷ []) (map (λ p. p.table) pieces)
   pub ran : map (λ v. v.items) w.ran.items ≡ map (λ p. p.taken.items) pieces
   pub exit : w.exit ≡ first_exit (map (λ p. p.exit) pieces)
 
@@ -31,12 +31,12 @@ pub record IsCollected (n : ℕ) (pieces : List (ℕ × Piece)) (w : Whole) : Ty
 
 -- the tables of pieces
 abbrev pub tables_of : List (ℕ × Piece) → List Table
-tables_of pieces = map (λ p. p.1.table) pieces
+tables_of pieces = map (λ (g, piece). piece.table) pieces
 
 -- the least group that has no piece
 pub record IsFirstMissing (n g : ℕ) (pieces : List (ℕ × Piece)) : Type 0 where
   pub below : g < n
-  pub none : All (λ p. p.0 ≢ g) pieces
+  pub none : All (λ (h, piece). h ≢ g) pieces
   pub others : (less : ℕ) → less < g → (p : Piece) × Contains pieces (less, p)
 
 -- the first piece of a group that is not below n, or that is there or before it

@@ -8,7 +8,7 @@ use Rattle.replay_core.specs.Meaning.{blank_threads, history, exit_of}
 -- the firings up to the one that exits
 abbrev pub up_to : Option (ℕ × ℕ) → List Firing → List Firing
 up_to None fs = fs
-up_to (Some exit) fs = filter (λ f. nat_le f.number exit.0) fs
+up_to (Some (last, status)) fs = filter (λ f. nat_le f.number last) fs
 
 -- BEGIN, the trace's firings up to the first that exits, END
 abbrev pub firings_over : ScriptMeant → List Firing → List Firing
@@ -21,17 +21,17 @@ history_over m trace = history m (firings_over m trace) blank_threads
 
 -- the status of its exit, or 0
 abbrev pub exit_status : List (Firing × Made) → ℕ
-exit_status h = unwrap_or (option_map (λ exit. exit.1) (exit_of h)) 0
+exit_status h = unwrap_or (option_map (λ (number, status). status) (exit_of h)) 0
 
 -- the number of the first firing of a trace that exits, 2^64 - 1 if none does
 abbrev pub first_exit_number : ScriptMeant → List Firing → ℕ
 first_exit_number m trace =
-    unwrap_or (option_map (λ exit. exit.0)
+    unwrap_or (option_map (λ (number, status). number)
     (exit_of (history m (with_ends trace trace) blank_threads))) no_number
 
 -- what each firing exits with: its number and the status
 abbrev pub exits_of : List (Firing × Made) → List (Option (ℕ × ℕ))
-exits_of h = map (λ x. option_map (λ status. (x.0.number, status)) x.1.exit) h
+exits_of h = map (λ (f, made). option_map (λ status. (f.number, status)) made.exit) h
 
 -- an exit is one of these, and none has a lesser number
 pub record IsLeastExit (exits : List (Option (ℕ × ℕ))) (exit : ℕ × ℕ) : Type 0 where

@@ -28,8 +28,8 @@ clauses_for f index (c ∷ cs) =
 -- clauses run one after the other
 abbrev pub in_turn : Firing → List (ℕ × ClauseMeant) → Variables → Made
 in_turn f [] vars = nothing_made vars
-in_turn f (c ∷ cs) vars =
-    let first = run_of f c.0 c.1 vars in and_then first (in_turn f cs first.variables)
+in_turn f ((index, c) ∷ cs) vars =
+    let first = run_of f index c vars in and_then first (in_turn f cs first.variables)
 
 -- a firing begins with its thread's variables, and with clause-locals that are zero or empty
 abbrev pub at_start : (Var → List KeyPart → Value) → Variables
@@ -44,8 +44,7 @@ firing_result m f own = in_turn f (clauses_for f 1 m.clauses) (at_start own)
 -- the firing's thread has the new variables, and each other thread those that it had
 abbrev pub threads_after : ScriptMeant → Firing → Threads → Threads
 threads_after m f threads thread =
-    if int_eq thread f.thread
-    then (firing_result m f (threads f.thread)).variables.own
+    if int_eq thread f.thread then (firing_result m f (threads f.thread)).variables.own
     else threads thread
 
 -- each firing with what it makes, over one map of the threads' variables
@@ -56,15 +55,15 @@ history m (f ∷ fs) threads =
 
 -- the texts, each with its firing's number
 abbrev pub texts_of : List (Firing × Made) → List (ℕ × List ℕ)
-texts_of r = flat_map (λ x. map (λ text. (x.0.number, text)) x.1.texts) r
+texts_of r = flat_map (λ (f, made). map (λ text. (f.number, text)) made.texts) r
 
 abbrev pub contributions_of : List (Firing × Made) → List Contribution
-contributions_of r = flat_map (λ x. x.1.contributions) r
+contributions_of r = flat_map (λ (f, made). made.contributions) r
 
 abbrev pub numbers_of : List (Firing × Made) → List ℕ
-numbers_of r = map (λ x. x.0.number) r
+numbers_of r = map (λ (f, made). f.number) r
 
 -- the first firing that exits, with its status: numbers rise, so it is the least
 abbrev pub exit_of : List (Firing × Made) → Option (ℕ × ℕ)
 exit_of [] = None
-exit_of (x ∷ xs) = option_or (option_map (λ status. (x.0.number, status)) x.1.exit) (exit_of xs)
+exit_of ((f, made) ∷ h) = option_or (option_map (λ code. (f.number, code)) made.exit) (exit_of h)

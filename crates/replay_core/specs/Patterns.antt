@@ -48,8 +48,7 @@ abbrev pub matches : (pattern text : List ℕ) → Bool
 matches [] [] = true
 matches [] (b ∷ text) = false
 matches (p ∷ pattern) text =
-    if p == byte "*"
-    then passes_after (matches pattern) text
+    if p == byte "*" then passes_after (matches pattern) text
     else passes_after_one p (matches pattern) text
 
 abbrev pub field_matches : (pattern text : List ℕ) → Bool

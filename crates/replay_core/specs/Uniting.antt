@@ -1,4 +1,4 @@
--- How the groups of a run unite to it.
+-- How the groups of a run make it up.
 use Rattle.std.specs.Prelude.{◌≡◌, ℕ, ◌==◌, ◌≤◌, nat_lt, List, [], ◌∷◌, filter, map, Option, None}
 use Rattle.std.specs.Prelude.{Some, if◌then◌else◌}
 use Rattle.d_types.specs.Typed.{ScriptMeant}
@@ -54,7 +54,7 @@ first_exit (exit ∷ exits) = sooner exit (first_exit exits)
 
 -- what the run makes is what its groups make: the texts sorted by number, the contributions and the
 -- numbers in some order, and the first exit
-pub record Unite (m : ScriptMeant) (grouping : Grouping) (fs : List Firing) : Type 0 where
+pub record GroupsMakeUp (m : ScriptMeant) (grouping : Grouping) (fs : List Firing) : Type 0 where
   pub texts : IsSorted (over_groups grouping (λ g. texts_of (group_history m grouping fs g)))
       (texts_of (history m fs blank_threads))
   pub contributions : SameItems

@@ -39,9 +39,10 @@ pub use Rattle.d_types.specs.declared.typed.TypedExpr.{TypedExpr}
 pub use Rattle.d_types.specs.declared.typed.TypedStmt.{TypedStmt}
 pub use Rattle.dif_codegen.specs.Meaning.{IsSameClause}
 pub use Rattle.dif_codegen.specs.Programs.{action_code}
-pub use Rattle.shard_queue.specs.Boards.{IsAt, IsNew, least_lowered, least_seen, number_lowered}
-pub use Rattle.shard_queue.specs.Boards.{number_seen}
+pub use Rattle.shard_queue.specs.Boards.{IsAt, IsNew, claim_handed, least_lowered, least_seen}
+pub use Rattle.shard_queue.specs.Boards.{number_lowered, number_seen}
 pub use Rattle.shard_queue.specs.Groups.{AreOf, grouping}
+pub use Rattle.shard_queue.specs.Hands.{Handed, IsHanded}
 pub use Rattle.shard_queue.specs.Least.{no_number}
 pub use Rattle.shard_queue.specs.Threads.{run_threads}
 pub use Rattle.shard_queue.specs.declared.board.ClaimBoard.{ClaimBoard}

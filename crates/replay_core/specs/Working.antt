@@ -1,11 +1,17 @@
 -- What a worker makes of the groups that it takes.
 use Rattle.std.specs.Prelude.{◌==◌, ◌||◌, ℕ, nat_le, Bool, true, List, All, filter}
-use Rattle.replay_core.specs.Vocabulary.{Firing, ScriptMeant, with_ends}
+use Rattle.replay_core.specs.Vocabulary.{AreOf, Firing, Groups, ScriptMeant, run_threads, with_ends}
 use Rattle.replay_core.specs.declared.{lanes.piece.Piece.Piece, workers.span.Span.Span}
 use Rattle.replay_core.specs.declared.workers.span.Span.TheVariants as span
 use Rattle.replay_core.specs.{Pieces.IsPieceOf}
 use Rattle.replay_core.specs.Groups.{Grouping, of_group}
 use Rattle.replay_core.specs.Seen.{IsRoomy, piece_seen}
+
+-- the script means something, and the groups are those of this trace
+pub record IsReady (runs : ScriptMeant → Type 0) (groups : Groups) (trace : List Firing)
+    : Type 0 where
+  pub script : (m : ScriptMeant) × runs m
+  pub placed : AreOf groups (run_threads trace)
 
 -- all, or those up to the last number, and END
 abbrev pub is_in : Span → Firing → Bool
@@ -19,10 +25,10 @@ firings_in span trace = filter (is_in span) (with_ends trace trace)
 
 -- the piece is what the script makes of its group's firings
 abbrev pub IsOfGroup : ScriptMeant → Grouping → List Firing → ℕ × Piece → Type 0
-IsOfGroup m grouping fs p = IsPieceOf m (of_group grouping p.0 fs) (piece_seen p.1)
+IsOfGroup m grouping fs (g, piece) = IsPieceOf m (of_group grouping g fs) (piece_seen piece)
 
 -- each piece is so for each meaning of the script, and holds few enough contributions
 pub record AreOfGroups (runs : ScriptMeant → Type 0) (grouping : Grouping) (fs : List Firing)
     (pieces : List (ℕ × Piece)) : Type 0 where
   pub each : (m : ScriptMeant) → runs m → All (IsOfGroup m grouping fs) pieces
-  pub roomy : All (λ p. IsRoomy p.1) pieces
+  pub roomy : All (λ (g, piece). IsRoomy piece) pieces

@@ -15,7 +15,7 @@ ghost use Rattle.replay_core.specs.Groups.{AreGrouped, Grouping};
 ghost use Rattle.replay_core.specs.Meaning.{Threads, exit_of, history, blank_threads};
 ghost use Rattle.replay_core.specs.Patterns.{Selects, selects};
 ghost use Rattle.replay_core.specs.Running.{threads_over};
-ghost use Rattle.replay_core.specs.Uniting.{IsSorted, Unite, group_history, results_in_group};
+ghost use Rattle.replay_core.specs.Uniting.{IsSorted, GroupsMakeUp, group_history, results_in_group};
 
 /// A description selects the probes that its patterns match.
 pub fn selected_is_matched()
@@ -48,7 +48,7 @@ pub fn group_runs_as_in_the_run()
 /// What the groups of a grouping make is what the run makes.
 pub fn groups_unite()
     ensures { (m : ScriptMeant) (grouping : Grouping) (fs : List Firing) → AreGrouped grouping fs
-        → IsStrictlyIncreasing (map number_of fs) → Unite m grouping fs }
+        → IsStrictlyIncreasing (map number_of fs) → GroupsMakeUp m grouping fs }
 {}
 
 /// Items are sorted in one way only.

@@ -9,12 +9,11 @@ pub(crate) mod until;
 pub(crate) mod worker;
 
 ghost use Rattle.std.specs.Prelude.{◌≡◌, ◌<◌, ◌≤◌, IfOk, vec_len};
-ghost use Rattle.replay_core.specs.Vocabulary.{AreOf, IsTrace, ScriptMeant, end_of, flat_map};
-ghost use Rattle.replay_core.specs.Vocabulary.{grouping, run_threads};
-ghost use Rattle.replay_core.specs.{Exit.firings_over, Groups.IsAllBelow};
+ghost use Rattle.replay_core.specs.Vocabulary.{IsTrace, ScriptMeant, flat_map, grouping};
+ghost use Rattle.replay_core.specs.{Exit.firings_over, Groups.IsAllBelow, Working.IsReady};
 ghost use Rattle.replay_core.specs.Steps.AtBoard.{IsRun};
 ghost use Rattle.replay_core.specs.{Seen.whole_seen};
-ghost use Rattle.replay_core.specs.Steps.Working.{IsInput, IsReady};
+ghost use Rattle.replay_core.specs.Steps.Working.{IsInput};
 ghost use Rattle.replay_core.specs.Pieces.{IsWholeOf, RunsEachOnce};
 
 use crate::collect_fault::CollectFault;
@@ -30,14 +29,6 @@ use shard_queue::{Groups, MAX_WORKERS};
 use std::alloc::{AllocError, Global};
 use std::sync::Wait;
 use std::thread::Threads;
-
-// What workers share out: a trace, the groups of its threads, and the gate that they pass.
-#[derive(Drop)]
-struct Job<'a, G> {
-    trace: &'a Trace,
-    groups: &'a Groups,
-    gate: &'a G,
-}
 
 /// Runs a script over a trace by this many workers, 1 to 16, each group by one of them, and makes
 /// one whole of what they made; the lists are the groups that each worker took. If a firing
@@ -59,8 +50,7 @@ pub fn run_all<R: Threads + Wait + Sync, L: Lanes + Sync, G: Gate + Sync>(
     workers: u32,
     gate: &G,
 ) -> Result<(Whole, Vec<Vec<u32>>), AllocError>
-    requires script { (m : ScriptMeant) × L.runs lanes.now m }
-    requires groups { AreOf groups.now (run_threads trace.now) }
+    requires ready { IsReady (L.runs lanes.now) groups.now trace.now }
     requires workers { (0 < workers) × (workers ≤ MAX_WORKERS) }
     ensures whole { IfOk result (λ r. (m : ScriptMeant) → L.runs lanes.now m
         → IsWholeOf m (firings_over m trace.now) (grouping groups.now) (whole_seen r.0)) }
@@ -70,12 +60,16 @@ pub fn run_all<R: Threads + Wait + Sync, L: Lanes + Sync, G: Gate + Sync>(
     ensures taken { IfOk result (λ r. IsAllBelow (grouping groups.now).count
         (flat_map (λ list. list.items) r.1.items)) }
 {
-    let job = Job {
+    let selections = lanes.selections(alloc, trace)?;
+    let input = WorkerInput {
+        alloc,
+        lanes,
         trace,
+        selections: &selections,
         groups,
         gate,
     };
-    let round = in_rounds(rt, alloc, lanes, &job, workers)?;
+    let round = in_rounds(rt, &input, workers)?;
     match collect(alloc, round.pieces, groups.len() as u32) {
         Ok(whole) => Ok((whole, round.lists)),
         Err(CollectFault::Memory) => Err(AllocError),
@@ -85,34 +79,9 @@ pub fn run_all<R: Threads + Wait + Sync, L: Lanes + Sync, G: Gate + Sync>(
     }
 }
 
-// Decides which clauses run for each firing, and then runs the rounds.
+// One round if the script has no exit. If it has one, workers watch for exits; and if a firing
+// exits, a second round is over the firings up to the first that does, and END.
 fn in_rounds<R: Threads + Wait + Sync, L: Lanes + Sync, G: Gate + Sync>(
-    rt: &R,
-    alloc: Global,
-    lanes: &L,
-    job: &Job<G>,
-    workers: u32,
-) -> Result<Round, AllocError>
-    requires ready { IsReady (L.runs lanes.now) job.now.groups.now job.now.trace.now }
-    requires workers { (0 < workers) × (workers ≤ MAX_WORKERS) }
-    ensures workers { IfOk result (λ r. vec_len r.lists ≡ workers) }
-    ensures trace { IfOk result (λ _. IsTrace job.now.trace.now) }
-    ensures run { IfOk result (IsRun (L.runs lanes.now) job.now.groups.now job.now.trace.now) }
-{
-    let selections = lanes.selections(alloc, job.trace)?;
-    let input = WorkerInput {
-        alloc,
-        lanes,
-        trace: job.trace,
-        selections: &selections,
-        groups: job.groups,
-        gate: job.gate,
-    };
-    in_needed_rounds(rt, &input, workers)
-}
-
-// One round if the script has no exit, else two.
-fn in_needed_rounds<R: Threads + Wait + Sync, L: Lanes + Sync, G: Gate + Sync>(
     rt: &R,
     input: &WorkerInput<L, G>,
     workers: u32,
@@ -125,29 +94,9 @@ fn in_needed_rounds<R: Threads + Wait + Sync, L: Lanes + Sync, G: Gate + Sync>(
         (L.runs input.now.lanes.now) input.now.groups.now input.now.trace.now) }
 {
     let end = input.trace.firings().last_number() + 1;
-    if input.lanes.exits() {
-        until_exit(rt, input, workers, end)
-    } else {
-        in_round(rt, input, workers, Span::All)
+    if !input.lanes.exits() {
+        return in_round(rt, input, workers, Span::All);
     }
-}
-
-// A round in which workers watch for exits. If a firing exits, a second one over the firings up
-// to the first that does, and END.
-fn until_exit<R: Threads + Wait + Sync, L: Lanes + Sync, G: Gate + Sync>(
-    rt: &R,
-    input: &WorkerInput<L, G>,
-    workers: u32,
-    end: u64,
-) -> Result<Round, AllocError>
-    requires ready { IsInput (L.runs input.now.lanes.now) input.now }
-    requires workers { (0 < workers) × (workers ≤ MAX_WORKERS) }
-    requires trace { IsTrace input.now.trace.now }
-    requires end { end ≡ (end_of input.now.trace.now).number }
-    ensures workers { IfOk result (λ r. vec_len r.lists ≡ workers) }
-    ensures run { IfOk result (IsRun
-        (L.runs input.now.lanes.now) input.now.groups.now input.now.trace.now) }
-{
     let watching = Span::UntilExit;
     let first = in_round(rt, input, workers, watching)?;
     if first.least == u64::MAX {

@@ -4,8 +4,8 @@ use Rattle.replay_core.specs.Vocabulary.{ClaimBoard, ClaimSeat, Firing, Groups, 
 use Rattle.replay_core.specs.Vocabulary.{flat_map, grouping}
 use Rattle.replay_core.specs.declared.{lanes.piece.Piece.Piece, workers.round.Round.Round}
 use Rattle.replay_core.specs.{Exit.firings_over, Groups.IsAllBelow, Seen.IsRoomy}
-use Rattle.replay_core.specs.Working.{IsOfGroup}
-use Rattle.replay_core.specs.{Selecting.AreSelected, Steps.Working.IsReady}
+use Rattle.replay_core.specs.Working.{IsOfGroup, IsReady}
+use Rattle.replay_core.specs.{Selecting.AreSelected}
 use Rattle.replay_core.specs.AtBoard.{Part}
 
 -- a board hands out all groups, and what its workers run is known

@@ -1,8 +1,6 @@
 -- The effect of a statement, noted in a piece.
-use Rattle.std.specs.Prelude.{◌≡◌, ◌+◌, ◌<◌, ◌≤◌, ◌^◌, ℕ, Bool, List, [], ◌∷◌, Result, Ok, Err}
-use Rattle.std.specs.Prelude.{is_some, length}
+use Rattle.std.specs.Prelude.{◌≡◌, ℕ, Bool, List, [], ◌∷◌, Result, Ok, Err, is_some}
 use Rattle.replay_core.specs.Vocabulary.{Effect, Faults, Firing, Has, Made, Outcome, Variables}
-use Rattle.replay_core.specs.Vocabulary.{count_held, functions_of}
 use Rattle.replay_core.specs.Steps.EffectRuns.{contributions_in, exit_in, texts_in}
 use Rattle.replay_core.specs.declared.{evaluation.fault.EvalFault.EvalFault}
 use Rattle.replay_core.specs.declared.{lanes.piece.Piece.Piece}
@@ -44,15 +42,7 @@ IsPerformed seen meaning r old new before after =
     × Performs old.firing.now.number (meaning old.firing.now (variables_in seen old))
     (piece_seen before) r (piece_seen after) (variables_in seen new)
 
--- ---- contributions
-
--- there is an aggregation at this index, and room for a contribution
-pub record HasRoomAt (index : ℕ) (p : Piece) : Type 0 where
-  pub known : index < length (functions_of p.table)
-  pub room : count_held p.table < 2 ^ 52
-
--- a piece has at most one contribution more, of the same aggregations and the same firings
-pub record HasOneMore (old new : Piece) : Type 0 where
-  pub held : count_held new.table ≤ count_held old.table + 1
-  pub functions : functions_of new.table ≡ functions_of old.table
+-- a piece keeps its contributions and its firings
+pub record KeepsTable (old new : Piece) : Type 0 where
+  pub table : new.table ≡ old.table
   pub taken : new.taken.items ≡ old.taken.items

@@ -1,5 +1,5 @@
 -- What the functions that evaluate an expression return, unless memory ran out.
-use Rattle.std.specs.Prelude.{◌≡◌, ⊤, List, Result, Ok, Err}
+use Rattle.std.specs.Prelude.{◌≡◌, List, Result, Ok, Err}
 use Rattle.dif_machine.specs.declared.fault.MachineFault.{MachineFault}
 use Rattle.numbered.specs.Words.{key_in}
 use Rattle.numbered.specs.declared.word.Word.{Word}
@@ -25,14 +25,15 @@ evaluation_of (Err MachineFault.DivideByZero) = Err EvalFault.DivideByZero
 evaluation_of (Err MachineFault.Memory) = Err EvalFault.Memory
 
 -- what a call that makes a key leaves, unless memory ran out: words that stand for it
-abbrev pub IsMadeKey : Outcome (List KeyPart) → Result (⊤) EvalFault → List KeyPart → Variables
-    → Type 0
+abbrev pub IsMadeKey : {A : Type 0} → Outcome (List KeyPart) → Result A EvalFault → List KeyPart
+    → Variables → Type 0
 IsMadeKey o (Ok x) key vars = o ≡ Has key vars
 IsMadeKey o (Err EvalFault.DivideByZero) key vars = o ≡ Faults vars
 IsMadeKey o (Err EvalFault.Memory) key vars = Unit {0}
 
-pub record MakesKey {G : Ghosts WordsSeen} (meaning : Firing → Variables → Outcome (List KeyPart))
-    (r : Result ⊤ EvalFault) (words : List Word) (old new : State WordsSeen G) : Type 0 where
+pub record MakesKey {A : Type 0} {G : Ghosts WordsSeen}
+    (meaning : Firing → Variables → Outcome (List KeyPart)) (r : Result A EvalFault)
+    (words : List Word) (old new : State WordsSeen G) : Type 0 where
   pub stays : Stays words_seen old new
   pub made : IsMadeKey (meaning old.firing.now (variables_in words_seen old)) r
       (key_in new.store.now.texts words) (variables_in words_seen new)

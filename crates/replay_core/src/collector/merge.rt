@@ -2,7 +2,7 @@
 
 ghost use Rattle.std.specs.Prelude.{◌≡◌, ◌<◌, ◌≤◌, ◌+◌, ◌^◌, ◌++◌, ◌∷◌, [], length, IfOk, OnOk};
 ghost use Rattle.replay_core.specs.Steps.Merging.{HasMerged};
-ghost use Rattle.replay_core.specs.Tables.{CanMerge, Serve};
+ghost use Rattle.replay_core.specs.Tables.{CanMerge, Refine};
 ghost use Rattle.replay_core.specs.Vocabulary.{count_held, functions_of};
 
 use aggregations::AggTable;
@@ -12,7 +12,7 @@ use std::alloc::{AllocError, Global};
 pub(crate) fn merge_all(alloc: Global, mut tables: Vec<AggTable>) -> Result<AggTable, AllocError>
     requires some { 0 < length tables.items }
     requires can { CanMerge tables.items }
-    ensures { IfOk result (λ table. Serve (table ∷ []) tables.items) }
+    ensures { IfOk result (λ table. Refine (table ∷ []) tables.items) }
 {
     'pairs: while tables.len() > 1 {
         tables = merge_neighbours(alloc, tables)?;
@@ -28,7 +28,7 @@ fn merge_neighbours(alloc: Global, tables: Vec<AggTable>) -> Result<Vec<AggTable
     requires can { CanMerge tables.items }
     ensures half { IfOk result (λ v. (length v.items + length v.items ≤ length tables.items + 1)
         × (length tables.items ≤ length v.items + length v.items)) }
-    ensures serve { IfOk result (λ v. Serve v.items tables.items) }
+    ensures refine { IfOk result (λ v. Refine v.items tables.items) }
 {
     let mut pairs = Vec::new(alloc);
     let mut first = None;

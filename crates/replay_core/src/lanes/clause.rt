@@ -1,11 +1,10 @@
 //! Clauses as engines run them.
 
-ghost use Rattle.std.specs.Prelude.{◌≡◌, ◌+◌, ◌≤◌, ◌^◌, ℕ, IfOk, length, map};
-ghost use Rattle.replay_core.specs.Vocabulary.{AreTyped, ClauseMeant, IsSameClause};
-ghost use Rattle.replay_core.specs.Vocabulary.{HasTypedBuiltIns};
-ghost use Rattle.replay_core.specs.Vocabulary.{Slots, action_code, count_held, functions_of};
-ghost use Rattle.replay_core.specs.Vocabulary.{meant_of, run_of, statement_count};
-ghost use Rattle.replay_core.specs.Effects.{HasTaken, IsNotedRun};
+ghost use Rattle.std.specs.Prelude.{◌≡◌, ℕ, IfOk, length, map};
+ghost use Rattle.replay_core.specs.Vocabulary.{AreTyped, ClauseMeant, HasTypedBuiltIns};
+ghost use Rattle.replay_core.specs.Vocabulary.{IsSameClause, Slots, action_code, meant_of, run_of};
+ghost use Rattle.replay_core.specs.Vocabulary.{statement_count};
+ghost use Rattle.replay_core.specs.Effects.{CanNote, HasMore, IsNotedRun};
 ghost use Rattle.replay_core.specs.Bounds.{indices_among, indices_in};
 ghost use Rattle.replay_core.specs.Evaluation.{Stays, variables_in};
 
@@ -52,12 +51,8 @@ pub trait Clause {
         state: &mut State<'_, '_, Self::Store>,
         piece: &mut Piece,
     ) -> Result<bool, AllocError>
-        requires indices { indices self.now ≤ length (functions_of piece.old.table) }
-        requires room { count_held piece.old.table + most self.now ≤ 2 ^ 52 }
-        requires taken { HasTaken state.old piece.old }
-        ensures functions { functions_of piece.new.table ≡ functions_of piece.old.table }
-        ensures taken { piece.new.taken.items ≡ piece.old.taken.items }
-        ensures held { count_held piece.new.table ≤ count_held piece.old.table + most self.now }
+        requires { CanNote (indices self.now) (most self.now) state.old piece.old }
+        ensures more { HasMore (most self.now) piece.old piece.new }
         ensures state { Stays Self.Store.seen state.old state.new }
         ensures run { IfOk result (λ exits.
             (slots : Slots) (c : ClauseMeant) → means self.now slots c

@@ -1,12 +1,10 @@
 //! The clauses of a firing, one after the other.
 
-ghost use Rattle.std.specs.Prelude.{◌≡◌, ◌+◌, ◌*◌, ◌<◌, ◌≤◌, ◌^◌, ◌∷◌, [], List, All, IfOk};
-ghost use Rattle.std.specs.Prelude.{MatchOption, OnOk, is_some, length};
+ghost use Rattle.std.specs.Prelude.{◌≡◌, ◌*◌, ◌∷◌, [], List, IfOk, MatchOption, length};
 ghost use Rattle.replay_core.specs.Vocabulary.{AreTyped, ClauseMeant, HasTypedBuiltIns, Slots};
-ghost use Rattle.replay_core.specs.Vocabulary.{count_held, functions_of};
-ghost use Rattle.replay_core.specs.{Effects.HasTaken, Lanes.Notes, Scripts.AllMean};
-ghost use Rattle.replay_core.specs.{Seen.piece_seen};
-ghost use Rattle.replay_core.specs.Steps.AllMade.{all_made};
+ghost use Rattle.replay_core.specs.Effects.{HasMore, HasTaken, IsNotedRun};
+ghost use Rattle.replay_core.specs.{Scripts.AllMean};
+ghost use Rattle.replay_core.specs.Steps.{AllMade.all_made, OnThread.AreRunnable};
 ghost use Rattle.replay_core.specs.Evaluation.{Stays, variables_in};
 
 use crate::lanes::clause::Clause;
@@ -72,29 +70,15 @@ pub(crate) fn run_clauses<C: Clause>(
     state: &mut State<'_, '_, C::Store>,
     piece: &mut Piece,
 ) -> Result<bool, AllocError>
-    requires there { All (λ index. index < length clauses.now) indices.now }
-    requires named { All (λ c. C.indices c ≤ length (functions_of piece.old.table)) clauses.now }
-    requires few { All (λ c. C.most c ≤ MAX_BYTES) clauses.now }
-    requires room { count_held piece.old.table + MAX_BYTES * length indices.now ≤ 2 ^ 52 }
+    requires runnable { AreRunnable C.indices C.most clauses.now indices.now piece.old }
     requires taken { HasTaken state.old piece.old }
-    ensures functions { functions_of piece.new.table ≡ functions_of piece.old.table }
-    ensures taken { piece.new.taken.items ≡ piece.old.taken.items }
+    ensures more { HasMore (MAX_BYTES * length indices.now) piece.old piece.new }
     ensures state { Stays C.Store.seen state.old state.new }
-    ensures notes { OnOk result ((slots : Slots) (cs : List ClauseMeant)
+    ensures run { IfOk result (λ exits. (slots : Slots) (cs : List ClauseMeant)
         → AllMean C.means slots clauses.now cs → HasTypedBuiltIns state.old.firing.now
-        → AreTyped slots (variables_in C.Store.seen state.old) →
-        let made = all_made state.old.firing.now cs indices.now
-        (variables_in C.Store.seen state.old) in
-        Notes state.old.firing.now.number made (piece_seen piece.old) (piece_seen piece.new)
-        × (variables_in C.Store.seen state.new ≡ made.variables)) }
-    ensures exits { IfOk result (λ exits. (slots : Slots) (cs : List ClauseMeant)
-        → AllMean C.means slots clauses.now cs → HasTypedBuiltIns state.old.firing.now
-        → AreTyped slots (variables_in C.Store.seen state.old) →
-        let made = all_made state.old.firing.now cs indices.now
-        (variables_in C.Store.seen state.old) in
-        exits ≡ is_some made.exit) }
-    ensures held { OnOk result (count_held piece.new.table
-        ≤ count_held piece.old.table + MAX_BYTES * length indices.now) }
+        → AreTyped slots (variables_in C.Store.seen state.old)
+        → IsNotedRun C.Store.seen (λ f. all_made f cs indices.now) state.old state.new piece.old
+        piece.new exits) }
 {
     let count = clauses.len();
     let mut exits = false;

@@ -28,7 +28,7 @@ pub fn dif_lane(
     ensures fresh { IfOk result (λ l. IsFresh (⟦<DifLane<'static> as Engine>⟧.seen l)) }
     ensures unspent { IfOk result (λ l. l.spent ≡ false) }
 {
-    let functions = Vec::from_slice(alloc, program.aggregations())?;
+    let functions = Vec::from_slice(alloc, program.aggs())?;
     Lane::new(alloc, hash_key, program.clauses(), functions)
 }
 

@@ -1,7 +1,7 @@
 //! What runs firings.
 
-ghost use Rattle.std.specs.Prelude.{◌≡◌, ◌<◌, ◌≤◌, ◌↔◌, Bool, [], ◌∷◌, IfOk, IsErr, IsFalse};
-ghost use Rattle.std.specs.Prelude.{IsTrue, OnOk, is_some, length};
+ghost use Rattle.std.specs.Prelude.{◌≡◌, ◌<◌, ◌≤◌, ◌↔◌, Bool, [], ◌∷◌, IfOk, IsErr, IsTrue};
+ghost use Rattle.std.specs.Prelude.{OnOk, is_some, length};
 
 use crate::lanes::piece::Piece;
 use crate::selection::clause_indices::ClauseIndices;
@@ -37,8 +37,7 @@ pub trait Engine {
             → IfOk result (λ exits. exits
             ≡ is_some (exit_of (history m (firing.now ∷ []) (seen self.old).threads))) }
         ensures script { (m : ScriptMeant) → runs self.old m → runs self.new m }
-        ensures spent { IsTrue (is_spent self.old) → IsErr result
-            × ((seen self.new).piece.taken ≡ (seen self.old).piece.taken) }
+        ensures spent { IsTrue (is_spent self.old) → IsErr result × (seen self.new ≡ seen self.old) }
         ensures err { IsTrue (is_spent self.new) ↔ IsErr result };
 
     /// Runs the clauses at these indices, which were selected for a firing, and returns whether it
@@ -62,8 +61,7 @@ pub trait Engine {
             ≡ is_some (exit_of (history m (firing.now ∷ []) (seen self.old).threads))) }
         ensures script { (m : ScriptMeant) → runs self.old m
             → indices.now ≡ selected_for m firing.now → runs self.new m }
-        ensures spent { IsTrue (is_spent self.old) → IsErr result
-            × ((seen self.new).piece.taken ≡ (seen self.old).piece.taken) }
+        ensures spent { IsTrue (is_spent self.old) → IsErr result × (seen self.new ≡ seen self.old) }
         ensures err { IsTrue (is_spent self.new) ↔ IsErr result }
     {
         self.fire(firing)
@@ -72,7 +70,7 @@ pub trait Engine {
     /// What the firings made.
     fn finish(self) -> Piece
         ensures piece { piece_seen result ≡ (seen self).piece }
-        ensures held { IsFalse (is_spent self) → IsRoomy result };
+        ensures held { IsRoomy result };
 }
 
 // An engine that lies in a box.

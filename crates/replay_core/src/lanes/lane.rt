@@ -1,12 +1,11 @@
 //! Lanes: what all engines share.
 
-ghost use Rattle.std.specs.Prelude.{◌≡◌, ◌<◌, ◌≤◌, ◌∷◌, [], All, IfOk, OnOk, false, true};
-ghost use Rattle.std.specs.Prelude.{is_some, length, sum_by};
+ghost use Rattle.std.specs.Prelude.{◌≡◌, ◌<◌, ◌≤◌, IfOk, false, true, length, sum_by};
 ghost use Rattle.replay_core.specs.Vocabulary.{HasRanges, MAX_BYTES, ScriptMeant, functions_in};
 ghost use Rattle.replay_core.specs.Vocabulary.{functions_of, slots_of};
 ghost use Rattle.replay_core.specs.{Selecting.selected_for, Sizes.most_firings, Threads.threads_of};
-ghost use Rattle.replay_core.specs.Lanes.{Fires, IsFresh};
-ghost use Rattle.replay_core.specs.Meaning.{exit_of, history};
+ghost use Rattle.replay_core.specs.{Bounds.AreBounded, Lanes.IsFresh};
+ghost use Rattle.replay_core.specs.Steps.OnThread.{FiresTyped};
 ghost use Rattle.replay_core.specs.Scripts.{AllMean, AreTypedThreads, RunsAs};
 ghost use Rattle.replay_core.specs.Seen.{IsRoomy, lane_seen};
 
@@ -31,10 +30,9 @@ pub struct Lane<'a, C: Clause> {
     piece: Piece,
     // Memory was refused to a firing.
     spent: bool,
-    ghost named: { All (λ c. C.indices c ≤ length (functions_of piece.table)) clauses.now },
-    ghost few: { All (λ c. C.most c ≤ MAX_BYTES) clauses.now },
+    ghost bounded: { AreBounded C.indices C.most clauses.now (functions_of piece.table) },
     ghost probes: { sum_by C.probes clauses.now ≤ MAX_BYTES },
-    ghost room: { spent ≡ false → IsRoomy piece },
+    ghost room: { IsRoomy piece },
 }
 
 impl<'a, C: Clause> Lane<'a, C> {
@@ -50,8 +48,7 @@ impl<'a, C: Clause> Lane<'a, C> {
         clauses: &'a [C],
         functions: Vec<AggFn>,
     ) -> Result<Lane<'a, C>, AllocError>
-        requires named { All (λ c. C.indices c ≤ length functions.items) clauses.now }
-        requires few { All (λ c. C.most c ≤ MAX_BYTES) clauses.now }
+        requires bounded { AreBounded C.indices C.most clauses.now functions.items }
         requires probes { sum_by C.probes clauses.now ≤ MAX_BYTES }
         ensures script { IfOk result (λ l. (m : ScriptMeant)
             → AllMean C.means (slots_of m) clauses.now m.clauses → functions.items ≡ functions_in m
@@ -81,31 +78,18 @@ impl<'a, C: Clause> Lane<'a, C> {
             × (indices.now ≡ selected_for m firing.now) }
         requires indices { length indices.now ≤ MAX_BYTES }
         requires few { length self.old.piece.taken.items < most_firings }
-        requires room { IsRoomy self.old.piece }
         requires spent { self.old.spent ≡ true }
         ensures spent { self.new.spent ≡ true }
         ensures script { (m : ScriptMeant)
             → RunsAs C.means self.old.clauses.now (functions_of self.old.piece.table) m
             → RunsAs C.means self.new.clauses.now (functions_of self.new.piece.table) m }
-        ensures room { OnOk result (IsRoomy self.new.piece) }
-        ensures step { OnOk result ((m : ScriptMeant)
+        ensures run { IfOk result (λ exits. (m : ScriptMeant)
             → RunsAs C.means self.old.clauses.now (functions_of self.old.piece.table) m
             → indices.now ≡ selected_for m firing.now
             → AreTypedThreads (slots_of m) (threads_of (C.Store.seen self.old.store))
-            → Fires m firing.now
+            → FiresTyped m firing.now
             (lane_seen (C.Store.seen self.old.store) self.old.piece)
-            (lane_seen (C.Store.seen self.new.store) self.new.piece)) }
-        ensures typed { OnOk result ((m : ScriptMeant)
-            → RunsAs C.means self.old.clauses.now (functions_of self.old.piece.table) m
-            → indices.now ≡ selected_for m firing.now
-            → AreTypedThreads (slots_of m) (threads_of (C.Store.seen self.old.store))
-            → AreTypedThreads (slots_of m) (threads_of (C.Store.seen self.new.store))) }
-        ensures exits { IfOk result (λ exits. (m : ScriptMeant)
-            → RunsAs C.means self.old.clauses.now (functions_of self.old.piece.table) m
-            → indices.now ≡ selected_for m firing.now
-            → AreTypedThreads (slots_of m) (threads_of (C.Store.seen self.old.store))
-            → exits ≡ is_some
-            (exit_of (history m (firing.now ∷ []) (threads_of (C.Store.seen self.old.store))))) }
+            (lane_seen (C.Store.seen self.new.store) self.new.piece) exits) }
     {
         self.piece.taken.push(firing.number)?;
         run_on_thread(

@@ -1,8 +1,7 @@
 //! What a lane's firings made.
 
-ghost use Rattle.std.specs.Prelude.{◌≡◌, ◌+◌, ◌<◌, ◌≤◌, ◌^◌, ◌++◌, ◌∷◌, [], ℕ, All, Contains};
-ghost use Rattle.std.specs.Prelude.{IfOk, OnOk, length, take};
-ghost use Rattle.replay_core.specs.Vocabulary.{Effect, count_held, fault_line, functions_of};
+ghost use Rattle.std.specs.Prelude.{◌≡◌, ◌+◌, ◌++◌, ◌∷◌, [], ℕ, All, Contains, IfOk, OnOk, take};
+ghost use Rattle.replay_core.specs.Vocabulary.{Effect, fault_line, functions_of};
 ghost use Rattle.numbered.specs.Words.{key_in};
 
 use aggregations::{AggFn, AggTable, WordKey};
@@ -26,8 +25,9 @@ pub struct Piece {
 }
 
 impl Piece {
-    ghost use Rattle.replay_core.specs.{Seen.piece_seen};
-    ghost use Rattle.replay_core.specs.Steps.{Effects.NotesEffect, Seen.IsEmptyPiece};
+    ghost use Rattle.replay_core.specs.{Effects.HasMore, Effects.HasRoom, Seen.piece_seen};
+    ghost use Rattle.replay_core.specs.Steps.{Effects.KeepsTable, Effects.NotesEffect};
+    ghost use Rattle.replay_core.specs.Steps.{Seen.IsEmptyPiece};
 
     /// A piece of no firing, with aggregations of these functions.
     pub(crate) fn new(
@@ -71,8 +71,7 @@ impl Piece {
     /// Notes a text at the firing of this number, which was taken.
     pub(crate) fn note_text(&mut self, number: u64, text: Text) -> Result<(), AllocError>
         requires { Contains self.old.taken.items number }
-        ensures table { self.new.table ≡ self.old.table }
-        ensures taken { self.new.taken.items ≡ self.old.taken.items }
+        ensures kept { KeepsTable self.old self.new }
         ensures notes { OnOk result
             (NotesEffect number (Effect.Says text) (piece_seen self.old) (piece_seen self.new)) }
     {
@@ -87,11 +86,8 @@ impl Piece {
         key: &Key,
         argument: i64,
     ) -> Result<(), AllocError>
-        requires index { index < length (functions_of self.old.table) }
-        requires room { count_held self.old.table < 2 ^ 52 }
-        ensures functions { functions_of self.new.table ≡ functions_of self.old.table }
-        ensures taken { self.new.taken.items ≡ self.old.taken.items }
-        ensures held { count_held self.new.table ≤ count_held self.old.table + 1 }
+        requires { HasRoom (index + 1) 1 self.old }
+        ensures more { HasMore 1 self.old self.new }
         ensures notes { OnOk result ((number : ℕ)
             → NotesEffect number (Effect.Adds index key.now argument) (piece_seen self.old)
             (piece_seen self.new)) }
@@ -107,11 +103,8 @@ impl Piece {
         made: WordKey<'_>,
         argument: i64,
     ) -> Result<(), AllocError>
-        requires index { index < length (functions_of self.old.table) }
-        requires room { count_held self.old.table < 2 ^ 52 }
-        ensures functions { functions_of self.new.table ≡ functions_of self.old.table }
-        ensures taken { self.new.taken.items ≡ self.old.taken.items }
-        ensures held { count_held self.new.table ≤ count_held self.old.table + 1 }
+        requires { HasRoom (index + 1) 1 self.old }
+        ensures more { HasMore 1 self.old self.new }
         ensures notes { OnOk result ((number : ℕ)
             → NotesEffect number
             (Effect.Adds index (key_in made.entry.texts.now made.entry.words.now) argument)
@@ -122,8 +115,7 @@ impl Piece {
 
     /// Notes an exit at the firing of this number: the first counts.
     pub(crate) fn note_exit(&mut self, number: u64, status: u8)
-        ensures table { self.new.table ≡ self.old.table }
-        ensures taken { self.new.taken.items ≡ self.old.taken.items }
+        ensures kept { KeepsTable self.old self.new }
         ensures notes { NotesEffect number (Effect.Exits status) (piece_seen self.old)
             (piece_seen self.new) }
     {
@@ -142,8 +134,7 @@ impl Piece {
         before: usize,
     ) -> Result<(), AllocError>
         requires { Contains self.old.taken.items number }
-        ensures table { self.new.table ≡ self.old.table }
-        ensures taken { self.new.taken.items ≡ self.old.taken.items }
+        ensures kept { KeepsTable self.old self.new }
         ensures exit { self.new.exit ≡ self.old.exit }
         ensures texts { OnOk result (self.new.events.items
             ≡ take before self.old.events.items ++ (number, fault_line number index) ∷ []) }

@@ -1,11 +1,9 @@
 //! Runs the clauses of a firing over its thread's variables.
 
-ghost use Rattle.std.specs.Prelude.{◌≡◌, ◌+◌, ◌*◌, ◌<◌, ◌≤◌, ◌^◌, List, All, Contains, IfOk};
-ghost use Rattle.std.specs.Prelude.{OnOk, length};
+ghost use Rattle.std.specs.Prelude.{◌*◌, List, Contains, IfOk, length};
 ghost use Rattle.replay_core.specs.Vocabulary.{AreTypedOwn, ClauseMeant, HasTypedBuiltIns, Slots};
-ghost use Rattle.replay_core.specs.Vocabulary.{count_held, functions_of};
-ghost use Rattle.replay_core.specs.{Scripts.AllMean, Threads.threads_of};
-ghost use Rattle.replay_core.specs.Steps.OnThread.{RunsOn, made_on};
+ghost use Rattle.replay_core.specs.{Effects.HasMore, Scripts.AllMean, Threads.threads_of};
+ghost use Rattle.replay_core.specs.Steps.OnThread.{AreRunnable, RunsOn, made_on};
 
 use crate::lanes::clause::Clause;
 use crate::lanes::clause_runs::run_clauses;
@@ -26,13 +24,9 @@ pub(crate) fn run_on_thread<'a, C: Clause>(
     store: &mut C::Store,
     piece: &mut Piece,
 ) -> Result<bool, AllocError>
-    requires there { All (λ index. index < length clauses.now) indices.now }
-    requires named { All (λ c. C.indices c ≤ length (functions_of piece.old.table)) clauses.now }
-    requires few { All (λ c. C.most c ≤ MAX_BYTES) clauses.now }
-    requires room { count_held piece.old.table + MAX_BYTES * length indices.now ≤ 2 ^ 52 }
+    requires runnable { AreRunnable C.indices C.most clauses.now indices.now piece.old }
     requires taken { Contains piece.old.taken.items firing.now.number }
-    ensures functions { functions_of piece.new.table ≡ functions_of piece.old.table }
-    ensures taken { piece.new.taken.items ≡ piece.old.taken.items }
+    ensures more { HasMore (MAX_BYTES * length indices.now) piece.old piece.new }
     ensures run { IfOk result (λ exits. (slots : Slots) (cs : List ClauseMeant)
         → AllMean C.means slots clauses.now cs → HasTypedBuiltIns firing.now
         → AreTypedOwn slots (threads_of (C.Store.seen store.old) firing.now.thread)
@@ -40,8 +34,6 @@ pub(crate) fn run_on_thread<'a, C: Clause>(
         (made_on firing.now cs indices.now (threads_of (C.Store.seen store.old)))
         (threads_of (C.Store.seen store.old)) (threads_of (C.Store.seen store.new))
         piece.old piece.new exits) }
-    ensures held { OnOk result (count_held piece.new.table
-        ≤ count_held piece.old.table + MAX_BYTES * length indices.now) }
 {
     if indices.is_empty() {
         return Ok(false);

@@ -57,10 +57,13 @@ impl ClauseLists {
         ensures index { IfOk result (λ p. slice_get self.new p ≡ Some list) }
     {
         let hash = hash_of(*self.hashed.hasher(), &list);
-        match self.kept_at(hash, &list) {
-            Some(index) => Ok(index),
-            None => self.add(hash, list),
+        if let Some(index) = self.kept_at(hash, &list) {
+            return Ok(index);
         }
+        let index = self.lists.len();
+        self.lists.push(list)?;
+        self.hashed.insert(hash, index)?;
+        Ok(index)
     }
 
     // The index of a list that is found by its hash.
@@ -73,17 +76,6 @@ impl ClauseLists {
         } else {
             None
         }
-    }
-
-    // Adds a list at a new index.
-    fn add(&mut self, hash: u64, list: ClauseIndices) -> Result<usize, AllocError>
-        ensures grows { Extends self.old self.new }
-        ensures index { IfOk result (λ p. slice_get self.new p ≡ Some list) }
-    {
-        let index = self.lists.len();
-        self.lists.push(list)?;
-        self.hashed.insert(hash, index)?;
-        Ok(index)
     }
 }
 

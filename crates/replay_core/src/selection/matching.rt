@@ -28,16 +28,6 @@ fn is_field_match(pattern: &[u8], text: &[u8]) -> bool
     pattern.is_empty() || is_match(pattern, text)
 }
 
-fn is_match(pattern: &[u8], text: &[u8]) -> bool
-    ensures { IsTrue result ↔ Matches pattern.now text.now }
-{
-    if is_literal(pattern) {
-        pattern == text
-    } else {
-        is_wild_match(pattern, text)
-    }
-}
-
 /// Whether the pattern matches itself alone.
 pub(crate) fn is_literal(pattern: &[u8]) -> bool
     ensures { result ≡ list_all is_plain pattern.now }
@@ -48,7 +38,7 @@ pub(crate) fn is_literal(pattern: &[u8]) -> bool
 // What comes before the first star has one place. After it a run between two stars takes the
 // first place where it fits: wherever the rest of the pattern matches after a later place, it also
 // matches after the first.
-fn is_wild_match(pattern: &[u8], text: &[u8]) -> bool
+fn is_match(pattern: &[u8], text: &[u8]) -> bool
     ensures { IsTrue result ↔ Matches pattern.now text.now }
 {
     match split_at_first(pattern, b'*') {

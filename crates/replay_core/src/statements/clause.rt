@@ -1,11 +1,10 @@
 //! A run of a clause.
 
-ghost use Rattle.std.specs.Prelude.{◌≡◌, ◌+◌, ◌≤◌, ◌^◌, IfOk, length, map};
+ghost use Rattle.std.specs.Prelude.{IfOk, length, map};
 ghost use Rattle.d_types.specs.Clauses as spec;
 ghost use Rattle.replay_core.specs.{Bounds.indices_among, Evaluation.Stays};
-ghost use Rattle.replay_core.specs.Effects.{HasTaken, IsNotedRun};
+ghost use Rattle.replay_core.specs.Effects.{CanNote, HasMore, IsNotedRun};
 ghost use Rattle.replay_core.specs.Steps.EffectRuns.{ran_by, run_result, statements_by};
-ghost use Rattle.replay_core.specs.Vocabulary.{count_held, functions_of};
 
 use crate::evaluation::EvalFault;
 use crate::lanes::piece::Piece;
@@ -22,13 +21,9 @@ fn run_statements<X: Expression, S: Statement<X>>(
     state: &mut State<'_, '_, X::Store>,
     piece: &mut Piece,
 ) -> Result<bool, AllocError>
-    requires indices { indices_among (map S.form statements.now)
-        ≤ length (functions_of piece.old.table) }
-    requires room { count_held piece.old.table + length statements.now ≤ 2 ^ 52 }
-    requires taken { HasTaken state.old piece.old }
-    ensures functions { functions_of piece.new.table ≡ functions_of piece.old.table }
-    ensures taken { piece.new.taken.items ≡ piece.old.taken.items }
-    ensures held { count_held piece.new.table ≤ count_held piece.old.table + length statements.now }
+    requires { CanNote (indices_among (map S.form statements.now)) (length statements.now)
+        state.old piece.old }
+    ensures more { HasMore (length statements.now) piece.old piece.new }
     ensures state { Stays X.Store.seen state.old state.new }
     ensures run { IfOk result (IsNotedRun X.Store.seen
         (λ f vars. run_result (spec.fault_line f.number index)
@@ -60,13 +55,9 @@ pub(crate) fn run_clause<X: Expression, S: Statement<X>>(
     state: &mut State<'_, '_, X::Store>,
     piece: &mut Piece,
 ) -> Result<bool, AllocError>
-    requires indices { indices_among (map S.form statements.now)
-        ≤ length (functions_of piece.old.table) }
-    requires room { count_held piece.old.table + length statements.now ≤ 2 ^ 52 }
-    requires taken { HasTaken state.old piece.old }
-    ensures functions { functions_of piece.new.table ≡ functions_of piece.old.table }
-    ensures taken { piece.new.taken.items ≡ piece.old.taken.items }
-    ensures held { count_held piece.new.table ≤ count_held piece.old.table + length statements.now }
+    requires { CanNote (indices_among (map S.form statements.now)) (length statements.now)
+        state.old piece.old }
+    ensures more { HasMore (length statements.now) piece.old piece.new }
     ensures state { Stays X.Store.seen state.old state.new }
     ensures run { IfOk result (IsNotedRun X.Store.seen
         (λ f. ran_by (X.by f) (spec.fault_line f.number index) predicate.now

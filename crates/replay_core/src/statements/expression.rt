@@ -1,6 +1,6 @@
 //! Expressions as engines evaluate them.
 
-ghost use Rattle.std.specs.Prelude.{◌≡◌, List};
+ghost use Rattle.std.specs.Prelude.{◌≡◌, List, map};
 
 use crate::evaluation::{EvalFault, word_in};
 use crate::lanes::state::State;
@@ -28,15 +28,18 @@ pub(crate) trait Expression: Sized {
     type Store: Store;
 
     ghost use Rattle.replay_core.specs.{Evaluation.Meets};
-    ghost use Rattle.replay_core.specs.Vocabulary.{Evaluation, Firing as Recorded};
+    ghost use Rattle.replay_core.specs.Vocabulary.{DType, Evaluation, Firing as Recorded};
     ghost use Rattle.replay_core.specs.Vocabulary.{number_outcome};
 
     /// What evaluation means.
     ghost by: { Recorded → Evaluation Self (List Self) };
 
+    /// The type of the value.
+    ghost returned: { Self → DType };
+
     /// The type of its value.
     fn returns(&self) -> DType
-        ensures { (f : Recorded) → result ≡ (by f).type self.now };
+        ensures { result ≡ returned self.now };
 
     /// Its value.
     fn evaluate(&self, state: &mut State<'_, '_, Self::Store>) -> Result<Value, EvalFault>
@@ -56,6 +59,7 @@ pub(crate) trait Expression: Sized {
         arguments: &[Self],
         state: &mut State<'_, '_, Self::Store>,
     ) -> Result<Arguments, EvalFault>
-        ensures { Meets Self.Store.seen (λ f. (by f).values arguments.now) result state.old
+        ensures { Meets Self.Store.seen
+            (λ f. (by f).values (map returned arguments.now) arguments.now) result state.old
             state.new };
 }

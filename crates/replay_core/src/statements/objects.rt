@@ -1,6 +1,6 @@
 //! Objects, run by the machine.
 
-ghost use Rattle.std.specs.Prelude.{◌≡◌, [], All, List, OnOk, ℕ};
+ghost use Rattle.std.specs.Prelude.{◌≡◌, ◌+◌, [], All, List, OnOk, map, ℕ};
 ghost use Rattle.d_types.specs.Storage.{word_of};
 ghost use Rattle.d_types.specs.Typed as typed;
 ghost use Rattle.dif_codegen.specs.Meaning as spec;
@@ -8,7 +8,8 @@ ghost use Rattle.numbered.specs.{Texts.Keeps, Words.value_of};
 ghost use Rattle.dif_machine.specs.Machine.{IsWithin};
 ghost use Rattle.replay_core.specs.{Evaluation.Meets, WordStore.words_seen};
 ghost use Rattle.replay_core.specs.Vocabulary.{action_code, argument_by, effect_by, number_outcome};
-ghost use Rattle.replay_core.specs.Steps.Effects.{HasOneMore, HasRoomAt, IsPerformed};
+ghost use Rattle.replay_core.specs.{Effects.HasMore, Effects.HasRoom};
+ghost use Rattle.replay_core.specs.Steps.Effects.{IsPerformed};
 ghost use Rattle.replay_core.specs.Steps.Evaluation.{MakesKey};
 
 use crate::evaluation::EvalFault;
@@ -35,7 +36,7 @@ fn number_in(word: Word) -> u64
 }
 
 // The integer that a run of an object returns, or 0.
-#[inline(never)]
+#[inline(always)]
 fn run_for_word(object: &TypedObject, state: &mut State<'_, '_, Words>) -> Result<u64, EvalFault>
     ensures { Meets words_seen (λ f vars. number_outcome (spec.value_of f object.now.object vars))
         result state.old state.new }
@@ -62,33 +63,25 @@ fn run_for_argument(
     }
 }
 
-// The words of a key, from left to right.
+// The words of a key, from left to right, and a hash of them for a cache.
 #[inline(always)]
 fn run_for_key(
     objects: &[TypedObject],
     key: &mut Vec<Word>,
     state: &mut State<'_, '_, Words>,
-) -> Result<(), EvalFault>
+) -> Result<u64, EvalFault>
     requires { key.old.items ≡ [] }
     ensures meets { MakesKey (λ f. spec.key_of_objects f objects.now) result key.new.items
         state.old state.new }
     ensures within { OnOk result (All (IsWithin state.new.store.now.texts) key.new.items) }
 {
+    let mut hash = 0;
     for object in objects {
         let word = state.store.run(object, state.firing)?;
+        hash = (hash ^ word.bits()).wrapping_mul(MULTIPLIER);
         key.push(word)?;
     }
-    Ok(())
-}
-
-// A hash of words, for a cache.
-#[inline(always)]
-fn hash_of(words: &[Word]) -> u64 {
-    let mut hash = 0;
-    for word in words {
-        hash = (hash ^ word.bits()).wrapping_mul(MULTIPLIER);
-    }
-    hash >> 32
+    Ok(hash >> 32)
 }
 
 // The value that a run of an object returns.
@@ -106,7 +99,8 @@ fn run_for_arguments(
     objects: &[TypedObject],
     state: &mut State<'_, '_, Words>,
 ) -> Result<Arguments, EvalFault>
-    ensures { Meets words_seen (λ f. spec.values_of_objects f objects.now)
+    ensures { Meets words_seen
+        (λ f. spec.values_of_objects f (map (λ x. x.returns) objects.now) objects.now)
         result state.old state.new }
 {
     let mut values = Vec::new(state.alloc);
@@ -125,19 +119,19 @@ fn aggregate(
     state: &mut State<'_, '_, Words>,
     piece: &mut Piece,
 ) -> Result<bool, EvalFault>
-    requires { HasRoomAt index piece.old }
-    ensures piece { HasOneMore piece.old piece.new }
+    requires { HasRoom (index + 1) 1 piece.old }
+    ensures more { HasMore 1 piece.old piece.new }
     ensures effect { IsPerformed words_seen
         (λ f. effect_by (spec.by_objects f) (typed.Aggregate index keys.now argument.now))
         result state.old state.new piece.old piece.new }
 {
     let mut key = state.store.take_key();
-    run_for_key(keys, &mut key, state)?;
+    let hash = run_for_key(keys, &mut key, state)?;
     let given = run_for_argument(argument, state)?;
     let made = WordKey {
         texts: state.store.texts(),
         words: &key,
-        hash: hash_of(&key),
+        hash,
     };
     piece.note_contribution_of_words(index, made, given)?;
     state.store.keep_key(key);
@@ -149,6 +143,8 @@ impl Expression for TypedObject {
 
     ghost by = { spec.by_objects };
 
+    ghost returned = { λ x. x.returns };
+
     fn returns(&self) -> DType {
         self.returns
     }
@@ -157,6 +153,7 @@ impl Expression for TypedObject {
         run_for_value(self, state)
     }
 
+    #[inline(always)]
     fn evaluate_word(&self, state: &mut State<'_, '_, Words>) -> Result<u64, EvalFault> {
         run_for_word(self, state)
     }

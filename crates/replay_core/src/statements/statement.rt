@@ -1,11 +1,11 @@
 //! One statement.
 
-ghost use Rattle.std.specs.Prelude.{◌≡◌, ◌+◌, ◌<◌, ◌≤◌, ◌^◌, List, length};
+ghost use Rattle.std.specs.Prelude.{List, map};
 ghost use Rattle.d_types.specs.Typed as typed;
-ghost use Rattle.replay_core.specs.{Bounds.index_in, Effects.HasTaken, Evaluation.Meets};
-ghost use Rattle.replay_core.specs.Steps.Effects.{IsPerformed};
-ghost use Rattle.replay_core.specs.Vocabulary.{ActionOf, count_held, effect_by, functions_of};
-ghost use Rattle.replay_core.specs.Vocabulary.{argument_by};
+ghost use Rattle.replay_core.specs.{Bounds.index_in, Evaluation.Meets};
+ghost use Rattle.replay_core.specs.Effects.{CanNote, HasMore, HasTaken};
+ghost use Rattle.replay_core.specs.Steps.Effects.{IsPerformed, KeepsTable};
+ghost use Rattle.replay_core.specs.Vocabulary.{ActionOf, argument_by, effect_by};
 
 use crate::evaluation::EvalFault;
 use crate::lanes::piece::Piece;
@@ -51,9 +51,9 @@ pub(crate) fn trace<X: Expression>(
     piece: &mut Piece,
 ) -> Result<bool, EvalFault>
     requires { HasTaken state.old piece.old }
-    ensures table { piece.new.table ≡ piece.old.table }
-    ensures taken { piece.new.taken.items ≡ piece.old.taken.items }
-    ensures effect { IsPerformed X.Store.seen (λ f. effect_by (X.by f) (typed.Trace e.now)) result
+    ensures kept { KeepsTable piece.old piece.new }
+    ensures effect { IsPerformed X.Store.seen
+        (λ f. effect_by (X.by f) (typed.Trace (X.returned e.now) e.now)) result
         state.old state.new piece.old piece.new }
 {
     let value = e.evaluate(state)?;
@@ -70,10 +70,10 @@ pub(crate) fn print<X: Expression>(
     piece: &mut Piece,
 ) -> Result<bool, EvalFault>
     requires { HasTaken state.old piece.old }
-    ensures table { piece.new.table ≡ piece.old.table }
-    ensures taken { piece.new.taken.items ≡ piece.old.taken.items }
+    ensures kept { KeepsTable piece.old piece.new }
     ensures effect { IsPerformed X.Store.seen
-        (λ f. effect_by (X.by f) (typed.Print format.now arguments.now))
+        (λ f. effect_by (X.by f)
+        (typed.Print format.now (map X.returned arguments.now) arguments.now))
         result state.old state.new piece.old piece.new }
 {
     let arguments = X::evaluate_arguments(arguments, state)?;
@@ -88,8 +88,7 @@ pub(crate) fn exit<X: Expression>(
     state: &mut State<'_, '_, X::Store>,
     piece: &mut Piece,
 ) -> Result<bool, EvalFault>
-    ensures table { piece.new.table ≡ piece.old.table }
-    ensures taken { piece.new.taken.items ≡ piece.old.taken.items }
+    ensures kept { KeepsTable piece.old piece.new }
     ensures effect { IsPerformed X.Store.seen (λ f. effect_by (X.by f) (typed.Exit e.now)) result
         state.old state.new piece.old piece.new }
 {
@@ -110,12 +109,8 @@ pub(crate) trait Statement<X: Expression> {
         state: &mut State<'_, '_, X::Store>,
         piece: &mut Piece,
     ) -> Result<bool, EvalFault>
-        requires index { index_in (form self.now) ≤ length (functions_of piece.old.table) }
-        requires room { count_held piece.old.table < 2 ^ 52 }
-        requires taken { HasTaken state.old piece.old }
-        ensures held { count_held piece.new.table ≤ count_held piece.old.table + 1 }
-        ensures functions { functions_of piece.new.table ≡ functions_of piece.old.table }
-        ensures taken { piece.new.taken.items ≡ piece.old.taken.items }
+        requires { CanNote (index_in (form self.now)) 1 state.old piece.old }
+        ensures more { HasMore 1 piece.old piece.new }
         ensures effect { IsPerformed X.Store.seen (λ f. effect_by (X.by f) (form self.now)) result
             state.old state.new piece.old piece.new };
 }

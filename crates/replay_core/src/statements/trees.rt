@@ -1,12 +1,13 @@
 //! Trees, walked.
 
+ghost use Rattle.std.specs.Prelude.{◌+◌, map};
 ghost use Rattle.d_types.specs.Clauses as spec;
 ghost use Rattle.d_types.specs.Typed as typed;
-ghost use Rattle.replay_core.specs.Evaluation.{Meets};
+ghost use Rattle.replay_core.specs.{Effects.HasMore, Effects.HasRoom, Evaluation.Meets};
 ghost use Rattle.replay_core.specs.Threads.{tables_seen};
-ghost use Rattle.replay_core.specs.Steps.Effects.{HasOneMore, HasRoomAt, IsPerformed};
+ghost use Rattle.replay_core.specs.Steps.Effects.{IsPerformed};
 ghost use Rattle.replay_core.specs.Vocabulary.{effect_by, typeds_of};
-ghost use Rattle.replay_core.specs.Forms.{by_expressions, statement_form};
+ghost use Rattle.replay_core.specs.Forms.{by_expressions, expression_type, statement_form};
 
 use crate::evaluation::{EvalFault, evaluate, evaluate_key};
 use crate::lanes::piece::Piece;
@@ -22,8 +23,9 @@ fn evaluate_arguments(
     arguments: &[TypedExpr],
     state: &mut State<'_, '_, Tables>,
 ) -> Result<Arguments, EvalFault>
-    ensures { Meets tables_seen (λ f. spec.values_of f (typeds_of arguments.now)) result state.old
-        state.new }
+    ensures { Meets tables_seen
+        (λ f. spec.values_of f (map expression_type arguments.now) (typeds_of arguments.now))
+        result state.old state.new }
 {
     let mut values = Vec::new(state.alloc);
     for argument in arguments {
@@ -41,8 +43,8 @@ fn aggregate(
     state: &mut State<'_, '_, Tables>,
     piece: &mut Piece,
 ) -> Result<bool, EvalFault>
-    requires { HasRoomAt index piece.old }
-    ensures piece { HasOneMore piece.old piece.new }
+    requires { HasRoom (index + 1) 1 piece.old }
+    ensures more { HasMore 1 piece.old piece.new }
     ensures effect { IsPerformed tables_seen
         (λ f. effect_by (by_expressions f) (typed.Aggregate index keys.now argument.now))
         result state.old state.new piece.old piece.new }
@@ -57,6 +59,8 @@ impl Expression for TypedExpr {
     type Store = Tables;
 
     ghost by = { by_expressions };
+
+    ghost returned = { expression_type };
 
     fn returns(&self) -> DType {
         self.type_of()

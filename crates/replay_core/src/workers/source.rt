@@ -1,7 +1,7 @@
 //! Where workers get their groups.
 
-ghost use Rattle.std.specs.Prelude.{◌≡◌, ℕ, ◌<◌, ◌≤◌, min, Bool, true, List, [], ◌∷◌, ◌++◌};
-ghost use Rattle.std.specs.Prelude.{Contains, IfSome, IfNone};
+ghost use Rattle.std.specs.Prelude.{◌≡◌, ℕ, ◌≤◌, min};
+ghost use Rattle.replay_core.specs.Vocabulary.{Handed, IsHanded};
 
 use shard_queue::{ClaimBoard, ClaimSeat, GroupQueue, QueueSeat};
 use std::sync::Wait;
@@ -16,11 +16,8 @@ pub trait Source {
     /// The seat is at this source.
     ghost is_at: { Self → Self.Seat → Type 0 };
 
-    /// What a seat was given.
-    ghost list: { Self.Seat → List ℕ };
-
-    /// Whether a seat is at the end.
-    ghost at_end: { Self.Seat → Bool };
+    /// What a seat was handed.
+    ghost handed: { Self.Seat → Handed };
 
     /// The least number that a seat lowered, 2^64 - 1 without any.
     ghost lowered: { Self.Seat → ℕ };
@@ -32,9 +29,7 @@ pub trait Source {
     fn take<R: Wait>(&self, rt: &R, seat: &mut Self::Seat) -> Option<u32>
         requires { is_at self.now seat.old }
         ensures seat { is_at self.now seat.new }
-        ensures some { IfSome result (λ g. (g < end self.now) × ¬ (Contains (list seat.old) g)
-            × (list seat.new ≡ list seat.old ++ g ∷ [])) }
-        ensures none { IfNone result ((at_end seat.new ≡ true) × (list seat.new ≡ list seat.old)) }
+        ensures next { IsHanded (end self.now) (handed seat.old) (handed seat.new) result }
         ensures least { (lowered seat.new ≡ lowered seat.old) × (seen seat.new ≡ seen seat.old) };
 }
 
@@ -43,25 +38,21 @@ pub trait Exits: Source {
     /// The least number becomes the lesser of itself and this one.
     fn lower(&self, seat: &mut Self::Seat, number: u64)
         requires { Self.is_at self.now seat.old }
-        ensures seat { Self.is_at self.now seat.new }
+        ensures seat { Self.is_at self.now seat.new × (Self.handed seat.new ≡ Self.handed seat.old) }
         ensures lowered { Self.lowered seat.new ≡ min (Self.lowered seat.old) number }
-        ensures seen { Self.seen seat.new ≡ Self.seen seat.old }
-        ensures others { (Self.list seat.new ≡ Self.list seat.old)
-            × (Self.at_end seat.new ≡ Self.at_end seat.old) };
+        ensures seen { Self.seen seat.new ≡ Self.seen seat.old };
 
     /// The least number, which is no more than what this seat lowered or was shown.
     fn least(&self, seat: &mut Self::Seat) -> u64
         requires { Self.is_at self.now seat.old }
-        ensures seat { Self.is_at self.now seat.new }
+        ensures seat { Self.is_at self.now seat.new × (Self.handed seat.new ≡ Self.handed seat.old) }
         ensures own { (result ≤ Self.lowered seat.old) × (result ≤ Self.seen seat.old) }
         ensures lowered { Self.lowered seat.new ≡ Self.lowered seat.old }
-        ensures seen { Self.seen seat.new ≡ result }
-        ensures others { (Self.list seat.new ≡ Self.list seat.old)
-            × (Self.at_end seat.new ≡ Self.at_end seat.old) };
+        ensures seen { Self.seen seat.new ≡ result };
 }
 
 impl Source for ClaimBoard {
-    ghost use Rattle.shard_queue.specs.Boards.{IsAt, number_lowered, number_seen};
+    ghost use Rattle.shard_queue.specs.Boards.{IsAt, claim_handed, number_lowered, number_seen};
 
     type Seat = ClaimSeat;
 
@@ -69,9 +60,7 @@ impl Source for ClaimBoard {
 
     ghost is_at = { IsAt };
 
-    ghost list = { λ seat. seat.taken.items };
-
-    ghost at_end = { λ seat. seat.at_end };
+    ghost handed = { claim_handed };
 
     ghost lowered = { number_lowered };
 
@@ -93,7 +82,7 @@ impl Exits for ClaimBoard {
 }
 
 impl Source for GroupQueue {
-    ghost use Rattle.shard_queue.specs.{Least.no_number, Queues.IsIn};
+    ghost use Rattle.shard_queue.specs.{Least.no_number, Queues.IsIn, Queues.queue_handed};
 
     type Seat = QueueSeat;
 
@@ -101,9 +90,7 @@ impl Source for GroupQueue {
 
     ghost is_at = { IsIn };
 
-    ghost list = { λ seat. seat.taken.items };
-
-    ghost at_end = { λ seat. seat.at_end };
+    ghost handed = { queue_handed };
 
     ghost lowered = { λ seat. no_number };
 

@@ -1,15 +1,14 @@
 //! One worker that watches for exits.
 
-ghost use Rattle.std.specs.Prelude.{◌≡◌, ◌<◌, ◌≤◌, true, false, [], map, min, length, All, IfOk};
-ghost use Rattle.std.specs.Prelude.{OnOk, IsFalse};
-ghost use Rattle.replay_core.specs.Vocabulary.{AreOf, MAX_BYTES, ScriptMeant, grouping, no_number};
-ghost use Rattle.replay_core.specs.Vocabulary.{run_threads, with_ends};
+ghost use Rattle.std.specs.Prelude.{◌≡◌, ◌<◌, ◌≤◌, [], length, All, IfOk, OnOk};
+ghost use Rattle.replay_core.specs.Vocabulary.{MAX_BYTES, ScriptMeant, grouping, no_number};
+ghost use Rattle.replay_core.specs.Vocabulary.{with_ends};
 ghost use Rattle.replay_core.specs.{Running.IsLaneOf, Seen.IsRoomy};
 ghost use Rattle.replay_core.specs.Steps.{Adding.IsAdded, Working.IsInput, Working.firings_at};
-ghost use Rattle.replay_core.specs.Beginnings.{AreBegun, IsBegunOf, least_exit};
+ghost use Rattle.replay_core.specs.AtBoard.{GivesBegun, IsWorkOf};
+ghost use Rattle.replay_core.specs.Beginnings.{IsBegunOf, lesser_of};
 ghost use Rattle.replay_core.specs.Steps.Beginnings.{RunsBeginning};
-ghost use Rattle.replay_core.specs.Beginnings.{lesser_of};
-ghost use Rattle.replay_core.specs.Selecting.{AreFor};
+ghost use Rattle.replay_core.specs.{Selecting.AreFor, Working.IsReady};
 
 use crate::lanes::Lanes;
 use crate::lanes::engine::Engine;
@@ -43,16 +42,12 @@ pub fn work_until<R: Wait, S: Exits, L: Lanes, G: Gate>(
 ) -> Result<(Vec<(u32, Piece)>, S::Seat), AllocError>
 where
     S::Seat: Drop,
-    requires seat { S.is_at source.now seat × (S.list seat ≡ []) }
+    requires seat { S.is_at source.now seat × ((S.handed seat).numbers ≡ []) }
     requires new { S.lowered seat ≡ no_number }
     requires end { S.end source.now ≡ (grouping groups.now).count }
-    requires script { (m : ScriptMeant) × L.runs lanes.now m }
-    requires groups { AreOf groups.now (run_threads trace.now) }
-    ensures seat { IfOk result (λ r. S.is_at source.now r.1 × (S.at_end r.1 ≡ true)) }
-    ensures groups { IfOk result (λ r. map (λ p. p.0) r.0.items ≡ S.list r.1) }
-    ensures pieces { IfOk result (λ r. AreBegun (L.runs lanes.now) (S.seen r.1)
-        (grouping groups.now) (with_ends trace.now trace.now) r.0.items) }
-    ensures least { IfOk result (λ r. S.lowered r.1 ≡ least_exit r.0.items) }
+    requires ready { IsReady (L.runs lanes.now) groups.now trace.now }
+    ensures { IfOk result (IsWorkOf (S.is_at source.now) S.handed
+        (GivesBegun S.seen S.lowered (L.runs lanes.now) groups.now trace.now)) }
 {
     let Ok(selections) = lanes.selections(alloc, trace) else {
         drop(seat);
@@ -78,16 +73,12 @@ pub(crate) fn watch_on<R: Wait, S: Exits, L: Lanes, G: Gate>(
 ) -> Result<(Vec<(u32, Piece)>, S::Seat), AllocError>
 where
     S::Seat: Drop,
-    requires seat { S.is_at source.now seat × (S.list seat ≡ []) }
+    requires seat { S.is_at source.now seat × ((S.handed seat).numbers ≡ []) }
     requires new { S.lowered seat ≡ no_number }
     requires end { S.end source.now ≡ (grouping input.now.groups.now).count }
     requires ready { IsInput (L.runs input.now.lanes.now) input.now }
-    ensures seat { IfOk result (λ r. S.is_at source.entry.now r.1 × (S.at_end r.1 ≡ true)) }
-    ensures groups { IfOk result (λ r. map (λ p. p.0) r.0.items ≡ S.list r.1) }
-    ensures pieces { IfOk result (λ r. AreBegun (L.runs input.entry.now.lanes.now) (S.seen r.1)
-        (grouping input.entry.now.groups.now)
-        (with_ends input.entry.now.trace.now input.entry.now.trace.now) r.0.items) }
-    ensures least { IfOk result (λ r. S.lowered r.1 ≡ least_exit r.0.items) }
+    ensures { IfOk result (IsWorkOf (S.is_at source.entry.now) S.handed (GivesBegun S.seen S.lowered
+        (L.runs input.entry.now.lanes.now) input.entry.now.groups.now input.entry.now.trace.now)) }
 {
     let mut pieces = Vec::new(input.alloc);
     for _ in rt.forever() {
@@ -115,43 +106,22 @@ fn push_beginning<S: Exits, L: Lanes, G>(
     requires seat { S.is_at source.now seat.old }
     requires group { group < (grouping input.now.groups.now).count }
     requires ready { IsInput (L.runs input.now.lanes.now) input.now }
-    ensures seat { OnOk result (S.is_at source.now seat.new × (S.list seat.new ≡ S.list seat.old)) }
-    ensures seen { OnOk result (S.seen seat.new ≤ S.seen seat.old) }
+    ensures seat { OnOk result (S.is_at source.now seat.new
+        × (S.handed seat.new ≡ S.handed seat.old) × (S.seen seat.new ≤ S.seen seat.old)) }
     ensures added { OnOk result (IsAdded (λ p. ((m : ScriptMeant) → L.runs input.now.lanes.now m
         → IsBegunOf m (S.seen seat.new) (grouping input.now.groups.now)
         (with_ends input.now.trace.now input.now.trace.now) p) × IsRoomy p.1
         × (S.lowered seat.new ≡ lesser_of (S.lowered seat.old) p.1.exit))
         pieces.old.items group pieces.new.items) }
 {
-    let piece = piece_until(source, seat, input, group)?;
-    pieces.push((group, piece))?;
-    Ok(())
-}
-
-// What a beginning of a group's firings makes.
-fn piece_until<S: Exits, L: Lanes, G>(
-    source: &S,
-    seat: &mut S::Seat,
-    input: &WorkerInput<L, G>,
-    group: u32,
-) -> Result<Piece, AllocError>
-    requires seat { S.is_at source.now seat.old }
-    requires group { group < (grouping input.now.groups.now).count }
-    requires ready { IsInput (L.runs input.now.lanes.now) input.now }
-    ensures seat { OnOk result (S.is_at source.now seat.new × (S.list seat.new ≡ S.list seat.old)) }
-    ensures seen { OnOk result (S.seen seat.new ≤ S.seen seat.old) }
-    ensures piece { IfOk result (λ p. (m : ScriptMeant) → L.runs input.now.lanes.now m
-        → IsBegunOf m (S.seen seat.new) (grouping input.now.groups.now)
-        (with_ends input.now.trace.now input.now.trace.now) (group, p)) }
-    ensures roomy { IfOk result IsRoomy }
-    ensures least { IfOk result (λ p. S.lowered seat.new ≡ lesser_of (S.lowered seat.old) p.exit) }
-{
     let mut lane = input.lanes.lane(input.alloc)?;
     let Ok(()) = run_until(source, seat, &mut lane, input, input.groups.indices(group)) else {
         drop(lane);
         return Err(AllocError);
     };
-    Ok(lane.finish())
+    let piece = lane.finish();
+    pieces.push((group, piece))?;
+    Ok(())
 }
 
 // Runs a beginning of the firings at these indices.
@@ -166,15 +136,13 @@ fn run_until<S: Exits, E: Engine, L, G>(
     requires script { (m : ScriptMeant) × E.runs lane.old m
         × AreFor input.now.trace.now input.now.selections.now m }
     requires fresh { (m : ScriptMeant) → E.runs lane.old m → IsLaneOf m [] (E.seen lane.old) }
-    requires unspent { IsFalse (E.is_spent lane.old) }
     requires short { All (λ clauses. length clauses ≤ MAX_BYTES) input.now.selections.now }
     requires indices { All (λ index. index
         < length (with_ends input.now.trace.now input.now.trace.now)) indices.now }
     requires few { length indices.now
         ≤ length (with_ends input.now.trace.now input.now.trace.now) }
-    ensures seat { OnOk result (S.is_at source.now seat.new × (S.list seat.new ≡ S.list seat.old)) }
-    ensures seen { OnOk result (S.seen seat.new ≤ S.seen seat.old) }
-    ensures unspent { OnOk result (IsFalse (E.is_spent lane.new)) }
+    ensures seat { OnOk result (S.is_at source.now seat.new
+        × (S.handed seat.new ≡ S.handed seat.old) × (S.seen seat.new ≤ S.seen seat.old)) }
     ensures run { OnOk result ((m : ScriptMeant) → E.runs lane.old m
         → AreFor input.now.trace.now input.now.selections.now m
         → RunsBeginning m (S.seen seat.new) (firings_at
@@ -185,39 +153,13 @@ fn run_until<S: Exits, E: Engine, L, G>(
 {
     for index in indices {
         let firing = firing_at(input.trace, *index);
-        if is_past_exit(source, seat, &firing) {
+        if source.least(seat) < firing.number {
             return Ok(());
         }
         if fire(lane, &firing, input.selections.at(*index))? {
-            tell_exit(source, seat, &firing);
+            source.lower(seat, firing.number);
             return Ok(());
         }
     }
     Ok(())
-}
-
-// Whether a firing comes after one that a worker found to exit.
-#[inline(always)]
-fn is_past_exit<S: Exits>(source: &S, seat: &mut S::Seat, firing: &Firing) -> bool
-    requires { S.is_at source.now seat.old }
-    ensures past { result ≡ true → S.seen seat.new < firing.now.number }
-    ensures before { result ≡ false → firing.now.number ≤ S.seen seat.new }
-    ensures seat { S.is_at source.now seat.new }
-    ensures seen { S.seen seat.new ≤ S.seen seat.old }
-    ensures lowered { S.lowered seat.new ≡ S.lowered seat.old }
-    ensures list { S.list seat.new ≡ S.list seat.old }
-{
-    source.least(seat) < firing.number
-}
-
-// Tells the other workers that a firing exits.
-#[inline(always)]
-fn tell_exit<S: Exits>(source: &S, seat: &mut S::Seat, firing: &Firing)
-    requires { S.is_at source.now seat.old }
-    ensures seat { S.is_at source.now seat.new }
-    ensures seen { S.seen seat.new ≡ S.seen seat.old }
-    ensures lowered { S.lowered seat.new ≡ min (S.lowered seat.old) firing.now.number }
-    ensures list { S.list seat.new ≡ S.list seat.old }
-{
-    source.lower(seat, firing.number);
 }

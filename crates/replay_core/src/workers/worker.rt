@@ -1,15 +1,15 @@
 //! One worker.
 
-ghost use Rattle.std.specs.Prelude.{◌≡◌, ◌+◌, ◌<◌, ◌≤◌, ◌∷◌, ◌++◌, true, [], List, map, filter};
-ghost use Rattle.std.specs.Prelude.{All, IfOk, IfSome, OnOk, IsFalse, is_some, length};
-ghost use Rattle.replay_core.specs.Vocabulary.{AreOf, Firing, HasRanges, MAX_BYTES, ScriptMeant};
-ghost use Rattle.replay_core.specs.Vocabulary.{MAX_TOGETHER, grouping, run_threads, with_ends};
+ghost use Rattle.std.specs.Prelude.{◌≡◌, ◌+◌, ◌<◌, ◌≤◌, ◌∷◌, ◌++◌, [], List, filter, All, IfOk};
+ghost use Rattle.std.specs.Prelude.{IfSome, OnOk, is_some, length};
+ghost use Rattle.replay_core.specs.Vocabulary.{Firing, HasRanges, MAX_BYTES, MAX_TOGETHER};
+ghost use Rattle.replay_core.specs.Vocabulary.{ScriptMeant, grouping, with_ends};
 ghost use Rattle.replay_core.specs.{Running.IsLaneOf, Seen.IsRoomy, Sizes.most_firings};
 ghost use Rattle.replay_core.specs.{Lanes.Fires, Meaning.exit_of, Meaning.history};
 ghost use Rattle.replay_core.specs.Selecting.{AreFor, selected_for};
-ghost use Rattle.replay_core.specs.Working.{AreOfGroups, IsOfGroup};
+ghost use Rattle.replay_core.specs.AtBoard.{GivesPieces, IsWorkOf};
+ghost use Rattle.replay_core.specs.Working.{IsOfGroup, IsReady, firings_in, is_in};
 ghost use Rattle.replay_core.specs.Steps.{Adding.IsAdded, Working.IsInput, Working.firings_at};
-ghost use Rattle.replay_core.specs.Working.{firings_in, is_in};
 
 use crate::lanes::Lanes;
 use crate::lanes::engine::Engine;
@@ -59,14 +59,11 @@ pub fn work<R: Wait, S: Source, L: Lanes, G: Gate>(
 ) -> Result<(Vec<(u32, Piece)>, S::Seat), AllocError>
 where
     S::Seat: Drop,
-    requires seat { S.is_at source.now seat × (S.list seat ≡ []) }
+    requires seat { S.is_at source.now seat × ((S.handed seat).numbers ≡ []) }
     requires end { S.end source.now ≡ (grouping groups.now).count }
-    requires script { (m : ScriptMeant) × L.runs lanes.now m }
-    requires groups { AreOf groups.now (run_threads trace.now) }
-    ensures seat { IfOk result (λ r. S.is_at source.now r.1 × (S.at_end r.1 ≡ true)) }
-    ensures groups { IfOk result (λ r. map (λ p. p.0) r.0.items ≡ S.list r.1) }
-    ensures pieces { IfOk result (λ r. AreOfGroups (L.runs lanes.now)
-        (grouping groups.now) (with_ends trace.now trace.now) r.0.items) }
+    requires ready { IsReady (L.runs lanes.now) groups.now trace.now }
+    ensures { IfOk result (IsWorkOf (S.is_at source.now) S.handed
+        (GivesPieces (L.runs lanes.now) groups.now (with_ends trace.now trace.now))) }
 {
     let Ok(selections) = lanes.selections(alloc, trace) else {
         drop(seat);
@@ -93,14 +90,12 @@ pub(crate) fn work_on<R: Wait, S: Source, L: Lanes, G: Gate>(
 ) -> Result<(Vec<(u32, Piece)>, S::Seat), AllocError>
 where
     S::Seat: Drop,
-    requires seat { S.is_at source.now seat × (S.list seat ≡ []) }
+    requires seat { S.is_at source.now seat × ((S.handed seat).numbers ≡ []) }
     requires end { S.end source.now ≡ (grouping input.now.groups.now).count }
     requires ready { IsInput (L.runs input.now.lanes.now) input.now }
-    ensures seat { IfOk result (λ r. S.is_at source.entry.now r.1 × (S.at_end r.1 ≡ true)) }
-    ensures groups { IfOk result (λ r. map (λ p. p.0) r.0.items ≡ S.list r.1) }
-    ensures pieces { IfOk result (λ r. AreOfGroups (L.runs input.entry.now.lanes.now)
-        (grouping input.entry.now.groups.now)
-        (firings_in span input.entry.now.trace.now) r.0.items) }
+    ensures { IfOk result (IsWorkOf (S.is_at source.entry.now) S.handed
+        (GivesPieces (L.runs input.entry.now.lanes.now) input.entry.now.groups.now
+        (firings_in span input.entry.now.trace.now))) }
 {
     let mut pieces = Vec::new(input.alloc);
     for _ in rt.forever() {
@@ -118,7 +113,7 @@ where
 }
 
 impl<'a, L: Lanes, G> WorkerInput<'a, L, G> {
-    // Makes the piece of a group, and adds it to these.
+    // Makes the piece of those of a group's firings that count, and adds it to these.
     fn push_piece(
         &self,
         pieces: &mut Vec<(u32, Piece)>,
@@ -131,57 +126,17 @@ impl<'a, L: Lanes, G> WorkerInput<'a, L, G> {
             → IsOfGroup m (grouping self.now.groups.now) (firings_in span self.now.trace.now) p)
             × IsRoomy p.1) pieces.old.items group pieces.new.items) }
     {
-        let piece = self.piece_of(group, span)?;
-        pieces.push((group, piece))?;
-        Ok(())
-    }
-
-    // What the firings of a group that count make.
-    fn piece_of(&self, group: u32, span: Span) -> Result<Piece, AllocError>
-        requires group { group < (grouping self.now.groups.now).count }
-        requires ready { IsInput (L.runs self.now.lanes.now) self.now }
-        ensures piece { IfOk result (λ p. (m : ScriptMeant) → L.runs self.now.lanes.now m
-            → IsOfGroup m (grouping self.now.groups.now)
-            (firings_in span self.now.trace.now) (group, p)) }
-        ensures roomy { IfOk result IsRoomy }
-    {
         let indices = self.groups.indices(group);
-        let lane = self.lanes.lane(self.alloc)?;
-        let lane = self.run_at(lane, indices, span)?;
-        Ok(lane.finish())
-    }
-
-    // Runs those of the firings at these indices that count.
-    fn run_at<E: Engine + Drop>(
-        &self,
-        mut lane: E,
-        indices: &[u32],
-        span: Span,
-    ) -> Result<E, AllocError>
-        requires script { (m : ScriptMeant) × E.runs lane m
-            × AreFor self.now.trace.now self.now.selections.now m }
-        requires fresh { (m : ScriptMeant) → E.runs lane m → IsLaneOf m [] (E.seen lane) }
-        requires unspent { IsFalse (E.is_spent lane) }
-        requires short { All (λ clauses. length clauses ≤ MAX_BYTES) self.now.selections.now }
-        requires indices { All (λ index. index
-            < length (with_ends self.now.trace.now self.now.trace.now)) indices.now }
-        requires few { length indices.now
-            ≤ length (with_ends self.now.trace.now self.now.trace.now) }
-        ensures script { IfOk result (λ l. (m : ScriptMeant) → E.runs lane m
-            → AreFor self.now.trace.now self.now.selections.now m → E.runs l m) }
-        ensures unspent { IfOk result (λ l. IsFalse (E.is_spent l)) }
-        ensures run { IfOk result (λ l. (m : ScriptMeant) → E.runs lane m
-            → AreFor self.now.trace.now self.now.selections.now m
-            → IsLaneOf m (filter (is_in span) (firings_at
-            (with_ends self.now.trace.now self.now.trace.now) indices.now)) (E.seen l)) }
-    {
+        let mut lane = self.lanes.lane(self.alloc)?;
         for block in indices.chunks(MAX_TOGETHER) {
             let Ok(()) = self.run_block(&mut lane, block, span) else {
                 drop(lane);
                 return Err(AllocError);
             };
         }
-        Ok(lane)
+        let piece = lane.finish();
+        pieces.push((group, piece))?;
+        Ok(())
     }
 
     // Runs those of the firings at these few indices that count. The rows and the lists of clauses
@@ -194,7 +149,6 @@ impl<'a, L: Lanes, G> WorkerInput<'a, L, G> {
     ) -> Result<(), AllocError>
         requires script { (m : ScriptMeant) × E.runs lane.old m
             × AreFor self.now.trace.now self.now.selections.now m }
-        requires unspent { IsFalse (E.is_spent lane.old) }
         requires short { All (λ clauses. length clauses ≤ MAX_BYTES) self.now.selections.now }
         requires indices { All (λ index. index
             < length (with_ends self.now.trace.now self.now.trace.now)) indices.now }
@@ -203,7 +157,6 @@ impl<'a, L: Lanes, G> WorkerInput<'a, L, G> {
             ≤ length (with_ends self.now.trace.now self.now.trace.now) }
         ensures script { OnOk result ((m : ScriptMeant) → E.runs lane.old m
             → AreFor self.now.trace.now self.now.selections.now m → E.runs lane.new m) }
-        ensures unspent { OnOk result (IsFalse (E.is_spent lane.new)) }
         ensures run { OnOk result ((m : ScriptMeant) (before : List Firing) → E.runs lane.old m
             → AreFor self.now.trace.now self.now.selections.now m
             → IsLaneOf m before (E.seen lane.old)
@@ -214,43 +167,17 @@ impl<'a, L: Lanes, G> WorkerInput<'a, L, G> {
         let lists = self.selections.lists(indices);
         for (at, index) in indices.iter().enumerate() {
             let firing = read_at(self.trace, *index, &rows, at);
-            run_one(lane, &firing, lists[at], span)?;
+            if !span.has(&firing) {
+                continue;
+            }
+            let _ = fire(lane, &firing, lists[at])?;
         }
         Ok(())
     }
 }
 
-// Runs the clauses at these indices for a firing, if it counts.
-fn run_one<E: Engine>(
-    lane: &mut E,
-    firing: &Firing,
-    clauses: Option<&ClauseIndices>,
-    span: Span,
-) -> Result<(), AllocError>
-    requires ranges { HasRanges firing.now }
-    requires selected { (m : ScriptMeant) × E.runs lane.old m
-        × IfSome clauses (λ c. c.now ≡ selected_for m firing.now) }
-    requires clauses { IfSome clauses (λ c. length c.now ≤ MAX_BYTES) }
-    requires few { length (E.seen lane.old).piece.taken < most_firings }
-    requires unspent { IsFalse (E.is_spent lane.old) }
-    ensures script { (m : ScriptMeant) → E.runs lane.old m
-        → IfSome clauses.entry (λ c. c.now ≡ selected_for m firing.now) → E.runs lane.new m }
-    ensures unspent { OnOk result (IsFalse (E.is_spent lane.new)) }
-    ensures few { OnOk result (length (E.seen lane.new).piece.taken
-        ≤ length (E.seen lane.old).piece.taken + 1) }
-    ensures run { OnOk result ((m : ScriptMeant) (before : List Firing) → E.runs lane.old m
-        → IfSome clauses.entry (λ c. c.now ≡ selected_for m firing.now)
-        → IsLaneOf m before (E.seen lane.old)
-        → IsLaneOf m (before ++ filter (is_in span) (firing.now ∷ [])) (E.seen lane.new)) }
-{
-    if !span.has(firing) {
-        return Ok(());
-    }
-    let _ = fire(lane, firing, clauses)?;
-    Ok(())
-}
-
 /// Fires a firing, whose clauses are at these indices if they were found.
+#[inline(always)]
 pub(crate) fn fire<E: Engine>(
     lane: &mut E,
     firing: &Firing,
@@ -270,7 +197,6 @@ pub(crate) fn fire<E: Engine>(
         ≡ is_some (exit_of (history m (firing.now ∷ []) (E.seen lane.old).threads))) }
     ensures script { (m : ScriptMeant) → E.runs lane.old m
         → IfSome clauses.entry (λ c. c.now ≡ selected_for m firing.now) → E.runs lane.new m }
-    ensures unspent { OnOk result (IsFalse (E.is_spent lane.new)) }
 {
     match clauses {
         Some(clauses) => lane.fire_selected(firing, clauses),

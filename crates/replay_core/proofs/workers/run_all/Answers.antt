@@ -13,17 +13,17 @@ use Rattle.replay_core.proofs.workers.run_all.Goals as goal
 pub collect-requires-clause-n : goal.collect-requires-clause-n
 collect-requires-clause-n g c =
     let len = c.len.ensures.count in
-    let some = some_group c.args.groups.now c.args.trace.now c.requires.groups in
+    let some = some_group c.args.groups.now c.args.trace.now c.requires.ready.placed in
     omega arith
 
 pub collect-requires-clause-tables : goal.collect-requires-clause-tables
 collect-requires-clause-tables g c =
     let a = c.args in
     let round = c.in_ok-round.ensures.run in
-    let script = c.requires.script in
+    let script = c.requires.ready.script in
     let trace = c.in_ok-round.ensures.trace in
     can_collect script.0 (grouping a.groups.now) (firings_over script.0 a.trace.now) c.in_ok-round.round.pieces.items
-    (over_grouped script.0 a.groups.now a.trace.now trace c.requires.groups) round.once (round.each script.0 script.1) round.roomy (over_few script.0 a.groups.now a.trace.now trace)
+    (over_grouped script.0 a.groups.now a.trace.now trace c.requires.ready.placed) round.once (round.each script.0 script.1) round.roomy (over_few script.0 a.groups.now a.trace.now trace)
 
 pub unreachable-requires : goal.unreachable-requires
 unreachable-requires g c =
@@ -54,7 +54,7 @@ returns-in-Ok-clause-whole g c = λ m runs.
     let pieces = c.in_ok-round.round.pieces.items in
     let round = c.in_ok-round.ensures.run in
     let trace = c.in_ok-round.ensures.trace in
-    whole_of m (grouping a.groups.now) (firings_over m a.trace.now) pieces c.in-Ok.whole (over_grouped m a.groups.now a.trace.now trace c.requires.groups)
+    whole_of m (grouping a.groups.now) (firings_over m a.trace.now) pieces c.in-Ok.whole (over_grouped m a.groups.now a.trace.now trace c.requires.ready.placed)
     (over_rise m a.groups.now a.trace.now trace) (round.each m runs) (subst (λ n. IsCollected n pieces c.in-Ok.whole) c.len.ensures.count c.in-Ok.ensures.ok)
 
 pub returns-in-Ok-clause-once : goal.returns-in-Ok-clause-once
@@ -63,7 +63,7 @@ returns-in-Ok-clause-once g c = λ m runs.
     let pieces = c.in_ok-round.round.pieces.items in
     let round = c.in_ok-round.ensures.run in
     let trace = c.in_ok-round.ensures.trace in
-    let grouped = over_grouped m a.groups.now a.trace.now trace c.requires.groups in
+    let grouped = over_grouped m a.groups.now a.trace.now trace c.requires.ready.placed in
     each_once m (grouping a.groups.now) (firings_over m a.trace.now) c.in-Ok.whole grouped
     (whole_of m (grouping a.groups.now) (firings_over m a.trace.now) pieces c.in-Ok.whole grouped
     (over_rise m a.groups.now a.trace.now trace) (round.each m runs) (subst (λ n. IsCollected n pieces c.in-Ok.whole) c.len.ensures.count c.in-Ok.ensures.ok))

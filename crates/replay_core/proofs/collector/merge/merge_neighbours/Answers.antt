@@ -2,7 +2,7 @@ use Rattle.std.proofs.Common.{rules, arith, ◌≡◌, ◌++◌, ◌∷◌, [], 
 use Rattle.std.proofs.Common.{sym, subst, append_assoc, length-append}
 use Rattle.std.specs.Vec.Iter.{into_iter_items}
 use Rattle.replay_core.specs.Tables.{AllHave}
-use Rattle.replay_core.proofs.Merging.{waiting, neighbours, serve_same, serve_after, serve_one}
+use Rattle.replay_core.proofs.Merging.{waiting, neighbours, refine_same, refine_after, serve_one}
 use Rattle.replay_core.proofs.collector.merge.merge_neighbours.Goals as goal
 
 pub push_merged-requires-clause-functions : goal.push_merged-requires-clause-functions
@@ -12,7 +12,7 @@ push_merged-requires-clause-functions c =
     let front : into_iter_items c.loop-table.table-iterator ≡ c.in-Some.table ∷ rest = search rules in
     let was : c.loop-table.pairs.items ++ (waiting c.loop-table.first ++ into_iter_items c.loop-table.table-iterator) ≡ c.loop-table.pairs.items ++ c.in-Some-take.both ∷ c.in-Some.table ∷ rest =
     ap₂ (λ f r. c.loop-table.pairs.items ++ (waiting f ++ r)) first front in
-    let have = c.loop-table.invariant.serve.functions c.requires.can.0.0 c.requires.can.0.1 in
+    let have = c.loop-table.invariant.refine.functions c.requires.can.0.0 c.requires.can.0.1 in
     neighbours c.requires.can.0.0 c.loop-table.pairs.items c.in-Some-take.both c.in-Some.table rest (subst (λ ts. AllHave c.requires.can.0.0 ts) was have)
 
 pub loop-table-preserved : goal.loop-table-preserved
@@ -37,5 +37,5 @@ loop-table-preserved c =
           let d = ap (λ f. length (waiting f)) none in
           let e = ap length items ∙ length-append pairs (made.merged ∷ []) in
           omega arith;
-      serve = serve_after _ _ _ (serve_after _ _ _ (serve_same _ _ now) step) (serve_after _ _ _ (serve_same _ _ (sym was)) i.serve);
+      refine = refine_after _ _ _ (refine_after _ _ _ (refine_same _ _ now) step) (refine_after _ _ _ (refine_same _ _ (sym was)) i.refine);
     }

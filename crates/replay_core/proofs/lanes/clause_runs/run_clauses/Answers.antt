@@ -8,7 +8,7 @@ use Rattle.replay_core.specs.Effects.{NotesRun}
 use Rattle.replay_core.specs.Evaluation.{variables_in}
 use Rattle.replay_core.specs.Seen.{piece_seen}
 use Rattle.replay_core.proofs.StateLemmas.{stays_refl, stays_then, taken_still}
-use Rattle.replay_core.proofs.Turning.{Continues, continues_all, continues_start, exits_all, turn_more}
+use Rattle.replay_core.proofs.Turning.{Continues, continues_all, continues_start, turn_more}
 use Rattle.shard_queue.proofs.Lists.{all_head, all_tail}
 use Rattle.replay_core.proofs.lanes.clause_runs.run_clauses.Goals as goal
 
@@ -19,7 +19,7 @@ loop-index-init g c =
     let piece = piece_seen c.args.piece.now in
     let long = ap length c.all-left.ensures in
     record {
-      there = subst (λ (l : List ℕ). All (λ p. p < length c.args.clauses.now) l) (sym c.all-left.ensures) c.requires.there;
+      there = subst (λ (l : List ℕ). All (λ p. p < length c.args.clauses.now) l) (sym c.all-left.ensures) c.requires.runnable.there;
       functions = refl;
       taken = refl;
       held = omega (arith, long);
@@ -32,29 +32,22 @@ pub bounds-clauses-index : goal.bounds-clauses-index
 bounds-clauses-index g c =
     all_head (λ p. p < length c.args.clauses.now) c.loop-index.left c.in-Some.index c.next.new.self c.loop-index.invariant.there c.in-Some.ensures
 
-pub run-requires-clause-indices : goal.run-requires-clause-indices
-run-requires-clause-indices g c =
+pub run-requires : goal.run-requires
+run-requires g c =
+    let i = c.loop-index.invariant in
     let n = length (functions_of c.args.piece.now.table) in
     let clause = c.index-clauses-index.result in
     let inside = all_head (λ p. p < length c.args.clauses.now) c.loop-index.left c.in-Some.index c.next.new.self c.loop-index.invariant.there c.in-Some.ensures in
-    let named = subst (λ x. g.C.Clause.indices x ≤ n) (sym c.index-clauses-index.is) (c.requires.named c.in-Some.index clause inside) in
-    let same = ap length c.loop-index.invariant.functions in
-    omega (arith, named, same)
-
-pub run-requires-clause-taken : goal.run-requires-clause-taken
-run-requires-clause-taken g c =
-    let i = c.loop-index.invariant in
-    taken_still g.C.Store.Store.seen c.args.state.now c.loop-index.state c.args.piece.now c.loop-index.piece i.stays i.taken c.requires.taken
-
-pub run-requires-clause-room : goal.run-requires-clause-room
-run-requires-clause-room g c =
-    let clause = c.index-clauses-index.result in
-    let inside = all_head (λ p. p < length c.args.clauses.now) c.loop-index.left c.in-Some.index c.next.new.self c.loop-index.invariant.there c.in-Some.ensures in
-    let most : g.C.Clause.most clause ≤ 65536 = subst (λ x. g.C.Clause.most x ≤ 65536) (sym c.index-clauses-index.is) (c.requires.few c.in-Some.index clause inside) in
+    let named = subst (λ x. g.C.Clause.indices x ≤ n) (sym c.index-clauses-index.is) (c.requires.runnable.bounded.named c.in-Some.index clause inside) in
+    let same = ap length i.functions in
+    let most : g.C.Clause.most clause ≤ 65536 = subst (λ x. g.C.Clause.most x ≤ 65536) (sym c.index-clauses-index.is) (c.requires.runnable.bounded.few c.in-Some.index clause inside) in
     let left = ap length c.in-Some.ensures in
-    let held = c.loop-index.invariant.held in
-    let room = c.requires.room in
-    omega (arith, most, left, held, room)
+    let held = i.held in
+    let room = c.requires.runnable.room in
+    record {
+      room = record { known = omega (arith, named, same); room = omega (arith, most, left, held, room) };
+      taken = taken_still g.C.Store.Store.seen c.args.state.now c.loop-index.state c.args.piece.now c.loop-index.piece i.stays i.taken c.requires.taken;
+    }
 
 pub loop-index-preserved : goal.loop-index-preserved
 loop-index-preserved g c =
@@ -73,15 +66,15 @@ loop-index-preserved g c =
     let exited = c.in_ok-exited.exited in
     let cut = c.in-Some.ensures in
     let inside = all_head (λ p. p < length clauses) c.loop-index.left index left i.there cut in
-    let most : g.C.Clause.most clause ≤ 65536 = subst (λ x. g.C.Clause.most x ≤ 65536) (sym c.index-clauses-index.is) (c.requires.few index clause inside) in
+    let most : g.C.Clause.most clause ≤ 65536 = subst (λ x. g.C.Clause.most x ≤ 65536) (sym c.index-clauses-index.is) (c.requires.runnable.bounded.few index clause inside) in
     let long = ap length cut in
     let here : c.loop-index.state.firing.now ≡ f = ap (λ s. s.now) i.stays.firing in
-    let held = c.run.ensures.held in
+    let held = c.run.ensures.more.held in
     let before_held = i.held in
     record {
       there = all_tail (λ p. p < length clauses) c.loop-index.left index left i.there cut;
-      functions = c.run.ensures.functions ∙ i.functions;
-      taken = c.run.ensures.taken ∙ i.taken;
+      functions = c.run.ensures.more.functions ∙ i.functions;
+      taken = c.run.ensures.more.taken ∙ i.taken;
       held = omega (arith, most, held, before_held, long);
       stays = stays_then g.C.Store.Store.seen c.args.state.now c.loop-index.state c.run.new.state i.stays c.run.ensures.state;
       all_made = λ slots cs mean fit good.
@@ -93,16 +86,15 @@ loop-index-preserved g c =
           (so_far.0, subst (λ (l : List ℕ). Continues f cs c.args.indices.now l before now old piece c.loop-index.exits) cut so_far.1);
     }
 
-pub returns-clause-notes : goal.returns-clause-notes
-returns-clause-notes g c = λ slots cs mean fit good.
+pub returns-clause-more : goal.returns-clause-more
+returns-clause-more g c =
+    let i = c.loop-index.invariant in
+    let held = i.held in
+    record { held = omega (arith, held); functions = i.functions; taken = i.taken }
+
+pub returns-clause-run : goal.returns-clause-run
+returns-clause-run g c = λ slots cs mean fit good.
     let f = c.args.state.now.firing.now in
     continues_all f cs _ _ _ _ _ c.loop-index.exits
-    (subst (λ (l : List ℕ). Continues f cs c.args.indices.now l (variables_in g.C.Store.Store.seen c.args.state.now) (variables_in g.C.Store.Store.seen c.loop-index.state) (piece_seen c.args.piece.now) (piece_seen c.loop-index.piece) c.loop-index.exits)
-    c.in_default.ensures (c.loop-index.invariant.all_made slots cs mean fit good).1)
-
-pub returns-clause-exits : goal.returns-clause-exits
-returns-clause-exits g c = λ slots cs mean fit good.
-    let f = c.args.state.now.firing.now in
-    exits_all f cs _ _ _ _ _ c.loop-index.exits
     (subst (λ (l : List ℕ). Continues f cs c.args.indices.now l (variables_in g.C.Store.Store.seen c.args.state.now) (variables_in g.C.Store.Store.seen c.loop-index.state) (piece_seen c.args.piece.now) (piece_seen c.loop-index.piece) c.loop-index.exits)
     c.in_default.ensures (c.loop-index.invariant.all_made slots cs mean fit good).1)

@@ -6,24 +6,21 @@ use Rattle.std.proofs.lemmas.Result.{IfOk-weaker}
 use Rattle.d_types.specs.Held.{slots_of}
 use Rattle.dif_codegen.specs.Meaning.{IsSameClause}
 use Rattle.dif_codegen.specs.Programs.{action_code}
-use Rattle.replay_core.specs.Bounds.{indices_among}
+use Rattle.replay_core.specs.Bounds.{AreBounded, indices_among}
 use Rattle.replay_core.proofs.ProgramLemmas.{program_few, program_few_probes, program_named}
 use Rattle.replay_core.proofs.TreeLemmas.{script_keeps}
 use Rattle.replay_core.proofs.lanes.compiled.dif_lane.Goals as goal
 
-pub new-requires-clause-named : goal.new-requires-clause-named
-new-requires-clause-named c =
+pub new-requires-clause-bounded : goal.new-requires-clause-bounded
+new-requires-clause-bounded c =
     let (m, compiled) = c.requires in
     let p = c.args.program.now in
     let many : length c.in_ok-functions.functions.items ≡ length m.aggregations =
-    ap length (c.in_ok-functions.ensures.items ∙ c.aggregations.ensures ∙ compiled.program.have_functions) ∙ length-map m.aggregations (λ a. a.function) in
-    subst (λ l. All (λ x. indices_among (map action_code x.actions.items) ≤ length c.in_ok-functions.functions.items) l) (sym c.clauses.ensures)
-    (subst (λ n. All (λ x. indices_among (map action_code x.actions.items) ≤ n) p.clauses.items) (sym many) (program_named m compiled.typed p.clauses.items compiled.program.do_the_same))
-
-pub new-requires-clause-few : goal.new-requires-clause-few
-new-requires-clause-few c =
-    let (m, compiled) = c.requires in
-    subst (λ l. All (λ x. length x.actions.items ≤ 65536) l) (sym c.clauses.ensures) (program_few m compiled.typed c.args.program.now.clauses.items compiled.program.do_the_same)
+    ap length (c.in_ok-functions.ensures.items ∙ c.aggs.ensures ∙ compiled.program.have_functions) ∙ length-map m.aggregations (λ a. a.function) in
+    subst (λ l. AreBounded (λ x. indices_among (map action_code x.actions.items)) (λ x. length x.actions.items) l c.in_ok-functions.functions.items) (sym c.clauses.ensures) (record {
+      named = subst (λ n. All (λ x. indices_among (map action_code x.actions.items) ≤ n) p.clauses.items) (sym many) (program_named m compiled.typed p.clauses.items compiled.program.do_the_same);
+      few = program_few m compiled.typed p.clauses.items compiled.program.do_the_same;
+    })
 
 pub new-requires-clause-probes : goal.new-requires-clause-probes
 new-requires-clause-probes c =
@@ -34,5 +31,5 @@ pub returns-clause-script : goal.returns-clause-script
 returns-clause-script c =
     IfOk-weaker c.new.result _ _ (λ l made m compiled.
     let clauses = subst (λ l. AllZip (IsSameClause (slots_of m)) l m.clauses) (sym c.clauses.ensures) compiled.program.do_the_same in
-    let functions = c.in_ok-functions.ensures.items ∙ c.aggregations.ensures ∙ compiled.program.have_functions in
+    let functions = c.in_ok-functions.ensures.items ∙ c.aggs.ensures ∙ compiled.program.have_functions in
     made m (record { each = clauses; keep = script_keeps m compiled.typed }) functions) c.new.ensures.script

@@ -9,7 +9,6 @@ use Rattle.replay_core.specs.Seen.{piece_seen}
 use Rattle.replay_core.specs.Threads.{threads_of}
 use Rattle.replay_core.specs.Steps.AllMade.{all_made}
 use Rattle.replay_core.specs.Steps.OnThread.{RunsOn}
-use Rattle.replay_core.proofs.FiringLemmas.{both}
 use Rattle.replay_core.proofs.Noting.{notes_nothing}
 use Rattle.replay_core.proofs.ThreadLemmas.{none_turn, own_stays, typed_start, thread_written}
 use Rattle.replay_core.proofs.lanes.threads.run_on_thread.Goals as goal
@@ -36,17 +35,16 @@ returns-clause-run g c =
     let left = seen c.run_clauses.new.state.store.now in
     let start = c.in_ok-enter.ensures.present in
     let stays = c.run_clauses.ensures.state in
-    IfOk-weaker c.run_clauses.result _ _ (λ exits (noted, told) slots cs mean fit good.
+    IfOk-weaker c.run_clauses.result _ _ (λ exits told slots cs mean fit good.
     let typed = typed_start slots begun.present (threads_of old f.thread) start good in
-    let made = noted slots cs mean fit typed in
+    let run = told slots cs mean fit typed in
     record {
-      notes = subst (λ v. Notes f.number (all_made f cs indices v) (piece_seen piece) (piece_seen after)) start made.0;
+      notes = subst (λ v. Notes f.number (all_made f cs indices v) (piece_seen piece) (piece_seen after)) start run.notes;
       threads = λ t.
           let written = thread_written begun left stays.at stays.others t
           ∙ ap (λ at. if int_eq t at then left.present.own else threads_of begun t) c.in_ok-enter.ensures.thread
           ∙ ap (λ (threads : Threads). if int_eq t f.thread then left.present.own else threads t) c.in_ok-enter.ensures.threads
-          ∙ ap (λ v. if int_eq t f.thread then v.own else threads_of old t) (made.1 ∙ ap (λ v. (all_made f cs indices v).variables) start) in
+          ∙ ap (λ v. if int_eq t f.thread then v.own else threads_of old t) (run.variables ∙ ap (λ v. (all_made f cs indices v).variables) start) in
           search (rules, written);
-      exited = told slots cs mean fit typed ∙ ap (λ v. is_some (all_made f cs indices v).exit) start;
-    })
-    (both _ _ c.run_clauses.result c.run_clauses.ensures.notes c.run_clauses.ensures.exits)
+      exited = run.exited ∙ ap (λ v. is_some (all_made f cs indices v).exit) start;
+    }) c.run_clauses.ensures.run

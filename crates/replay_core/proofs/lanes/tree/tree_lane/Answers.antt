@@ -6,23 +6,20 @@ use Rattle.std.specs.List.{AllZip}
 use Rattle.d_types.specs.Sizes.{statement_count}
 use Rattle.d_types.specs.Typed.{meant_of}
 use Rattle.d_types.specs.TypedScripts.{typed_script_of}
-use Rattle.replay_core.specs.Bounds.{indices_in}
+use Rattle.replay_core.specs.Bounds.{AreBounded, indices_in}
 use Rattle.replay_core.proofs.TreeLemmas.{all_few, all_named, few_probes, functions_same, script_keeps}
 use Rattle.replay_core.proofs.TreeLemmas.{trees_mean}
 use Rattle.replay_core.proofs.lanes.tree.tree_lane.Goals as goal
 
-pub new-requires-clause-named : goal.new-requires-clause-named
-new-requires-clause-named c =
+pub new-requires-clause-bounded : goal.new-requires-clause-bounded
+new-requires-clause-bounded c =
     let s = c.args.script.now in
     let many : length c.in_ok-functions.functions.items ≡ length s.aggregations.items =
     ap length c.in_ok-functions.ensures ∙ length-map s.aggregations.items (λ a. a.function) in
-    subst (λ l. All (λ x. indices_in (meant_of x) ≤ length c.in_ok-functions.functions.items) l) (sym c.clauses.ensures)
-    (subst (λ n. All (λ x. indices_in (meant_of x) ≤ n) s.clauses.items) (sym many) (all_named s.clauses.items s.aggregations.items s.slots.items s.typed))
-
-pub new-requires-clause-few : goal.new-requires-clause-few
-new-requires-clause-few c =
-    let s = c.args.script.now in
-    subst (λ l. All (λ x. statement_count (meant_of x) ≤ 65536) l) (sym c.clauses.ensures) (all_few s.clauses.items s.aggregations.items s.slots.items s.typed)
+    subst (λ l. AreBounded (λ x. indices_in (meant_of x)) (λ x. statement_count (meant_of x)) l c.in_ok-functions.functions.items) (sym c.clauses.ensures) (record {
+      named = subst (λ n. All (λ x. indices_in (meant_of x) ≤ n) s.clauses.items) (sym many) (all_named s.clauses.items s.aggregations.items s.slots.items s.typed);
+      few = all_few s.clauses.items s.aggregations.items s.slots.items s.typed;
+    })
 
 pub new-requires-clause-probes : goal.new-requires-clause-probes
 new-requires-clause-probes c =

@@ -34,4 +34,4 @@ returns-in-Err-DivideByZero-clause-run g c =
     subst (λ m. NotesRun f.number m (piece_seen c.args.piece.now) (piece_seen c.note_fault.new.self) after false) (sym run)
     (predicate_faults f.number line (piece_seen c.args.piece.now) (piece_seen c.note_fault.new.self) after
     (noted.texts ∙ ap (λ n. take c.len-texts.result c.args.piece.now.events.items ++ (n, fault_line n c.args.index) ∷ []) same
-    ∙ ap (λ n. take n c.args.piece.now.events.items ++ (f.number, line) ∷ []) before) noted.table noted.taken noted.exit)
+    ∙ ap (λ n. take n c.args.piece.now.events.items ++ (f.number, line) ∷ []) before) noted.kept.table noted.kept.taken noted.exit)

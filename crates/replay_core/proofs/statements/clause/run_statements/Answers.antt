@@ -1,4 +1,4 @@
-use Rattle.std.specs.Prelude.{◌≡◌, ◌+◌, ◌∷◌, ◌++◌, [], ◌||◌, length, map, take, Ok, Err}
+use Rattle.std.specs.Prelude.{◌≡◌, ◌+◌, ◌<◌, ◌∷◌, ◌++◌, [], ◌||◌, length, map, take, Ok, Err}
 use Rattle.std.proofs.Common.{refl, rules, arith, add-one, drop, subst, sym, ap, ◌∙◌}
 use Rattle.std.proofs.Math.Seq.{drop-cons}
 use Rattle.std.proofs.lemmas.List.{drop_all}
@@ -11,33 +11,36 @@ use Rattle.replay_core.specs.Evaluation.{variables_in}
 use Rattle.replay_core.specs.Seen.{piece_seen}
 use Rattle.replay_core.proofs.EffectLemmas.{SoFar, none_yet, goes_on, faults, ends}
 use Rattle.replay_core.proofs.IndexLemmas.{index_at}
+use Rattle.replay_core.proofs.PieceLemmas.{more_then, no_more}
 use Rattle.replay_core.proofs.StateLemmas.{number_stays, stays_refl, stays_then, taken_still}
 use Rattle.replay_core.proofs.statements.clause.run_statements.Goals as goal
 
-pub perform-requires-clause-index : goal.perform-requires-clause-index
-perform-requires-clause-index g c =
-    let few = index_at g.S.Statement.form (length (functions_of c.args.piece.now.table)) c.args.statements.now c.loop-statement.statement-index c.statement-item.result (search rules) c.requires.indices in
+pub perform-requires : goal.perform-requires
+perform-requires g c =
+    let i = c.loop-statement.statement-index in
+    let more = c.loop-statement.invariant.more in
+    let stays = c.loop-statement.invariant.stays in
+    let within : i < length c.args.statements.now = search rules in
+    let few = index_at g.S.Statement.form (length (functions_of c.args.piece.now.table)) c.args.statements.now i c.statement-item.result within c.requires.room.known in
     let at = ap (λ s. index_in (g.S.Statement.form s)) c.statement-item.is in
-    let same = ap length c.loop-statement.invariant.functions in
-    omega (arith, few, at, same)
-
-pub perform-requires-clause-taken : goal.perform-requires-clause-taken
-perform-requires-clause-taken g c =
-    let i = c.loop-statement.invariant in
-    taken_still g.X.Store.Store.seen c.args.state.now c.loop-statement.state c.args.piece.now c.loop-statement.piece i.stays i.taken c.requires.taken
+    let same = ap length more.functions in
+    let held = more.held in
+    let room = c.requires.room.room in
+    record {
+      room = record { known = omega (arith, few, at, same); room = omega (arith, within, held, room) };
+      taken = taken_still g.X.Store.Store.seen c.args.state.now c.loop-statement.state c.args.piece.now c.loop-statement.piece stays more.taken c.requires.taken;
+    }
 
 pub note_fault-requires : goal.note_fault-requires
 note_fault-requires g c =
     let i = c.loop-statement.invariant in
     let stays = stays_then g.X.Store.Store.seen c.args.state.now c.loop-statement.state c.perform.new.state i.stays c.perform.ensures.effect.0 in
-    taken_still g.X.Store.Store.seen c.args.state.now c.perform.new.state c.args.piece.now c.perform.new.piece stays (c.perform.ensures.taken ∙ i.taken) c.requires.taken
+    taken_still g.X.Store.Store.seen c.args.state.now c.perform.new.state c.args.piece.now c.perform.new.piece stays (c.perform.ensures.more.taken ∙ i.more.taken) c.requires.taken
 
 pub loop-statement-init : goal.loop-statement-init
 loop-statement-init g c = record {
-  functions = refl;
-  taken = refl;
+  more = no_more 0 c.args.piece.now;
   stays = stays_refl g.X.Store.Store.seen c.args.state.now;
-  held = omega arith;
   so_far = none_yet c.args.state.now.firing.now.number _ (piece_seen c.args.piece.now);
 }
 
@@ -59,12 +62,8 @@ loop-statement-preserved g c =
     let stays = c.loop-statement.invariant.stays in
     let performs = subst (λ s. Performs s.now.number (effect_by (g.X.Expression.by s.now) (form item) now) (piece_seen c.loop-statement.piece) (Ok c.in-Ok.exited) (piece_seen c.perform.new.piece) (variables_in g.X.Store.Store.seen c.perform.new.state))
     stays.firing c.in-Ok.ensures.effect.1 in
-    let held = c.in-Ok.ensures.held in
-    let held_before = c.loop-statement.invariant.held in
     record {
-      functions = c.in-Ok.ensures.functions ∙ c.loop-statement.invariant.functions;
-      taken = c.in-Ok.ensures.taken ∙ c.loop-statement.invariant.taken;
-      held = omega (arith, held, held_before);
+      more = more_then i 1 (i + 1) c.args.piece.now c.loop-statement.piece c.perform.new.piece (omega arith) c.loop-statement.invariant.more c.in-Ok.ensures.more;
       stays = stays_then g.X.Store.Store.seen c.args.state.now c.loop-statement.state c.perform.new.state stays c.in-Ok.ensures.effect.0;
       so_far = goes_on f.number (statements_by by (map form all) (variables_in g.X.Store.Store.seen c.args.state.now)) left o go
           (piece_seen c.args.piece.now) (piece_seen c.loop-statement.piece) (piece_seen c.perform.new.piece) (variables_in g.X.Store.Store.seen c.perform.new.state)
@@ -99,7 +98,7 @@ returns-in-Err-DivideByZero-clause-run g c =
     (subst (λ r. Performs f.number o (piece_seen c.loop-statement.piece) r (piece_seen c.perform.new.piece) (variables_in g.X.Store.Store.seen c.perform.new.state))
     (c.in-Err-DivideByZero.is ∙ ap (λ e. Err e) c.in-Err-DivideByZero.field-0-is) performs)
     (noted.texts ∙ ap (λ n. take c.len-before.result c.perform.new.piece.events.items ++ (n, fault_line n c.args.index) ∷ []) same
-    ∙ ap (λ n. take n c.perform.new.piece.events.items ++ (f.number, line) ∷ []) before) noted.table noted.taken noted.exit
+    ∙ ap (λ n. take n c.perform.new.piece.events.items ++ (f.number, line) ∷ []) before) noted.kept.table noted.kept.taken noted.exit
 
 pub returns-clause-run : goal.returns-clause-run
 returns-clause-run g c =

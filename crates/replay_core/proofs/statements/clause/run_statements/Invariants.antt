@@ -1,5 +1,5 @@
-use Rattle.std.proofs.Common.{◌≡◌, ◌+◌, ◌≤◌, drop, map}
-use Rattle.aggregations.specs.Table.{count_held, functions_of}
+use Rattle.std.proofs.Common.{drop, map}
+use Rattle.replay_core.specs.Effects.{HasMore}
 use Rattle.replay_core.specs.Evaluation.{Stays, variables_in}
 use Rattle.replay_core.specs.Seen.{piece_seen}
 use Rattle.replay_core.specs.Steps.EffectRuns.{statements_by}
@@ -8,9 +8,7 @@ use Rattle.replay_core.proofs.statements.clause.run_statements.Given as goal
 
 abbrev pub invariant-loop-statement : goal.invariant-loop-statement
 invariant-loop-statement g l = record {
-  functions : functions_of l.piece.table ≡ functions_of l.fn.piece.table;
-  taken : l.piece.taken.items ≡ l.fn.piece.taken.items;
-  held : count_held l.piece.table ≤ count_held l.fn.piece.table + l.statement-index;
+  more : HasMore l.statement-index l.fn.piece l.piece;
   stays : Stays g.X.Store.Store.seen l.fn.state l.state;
   so_far : SoFar l.fn.state.firing.now.number
       (statements_by (g.X.Expression.by l.fn.state.firing.now) (map g.S.Statement.form l.statements) (variables_in g.X.Store.Store.seen l.fn.state))

@@ -39,13 +39,13 @@ returns-clause-effect c =
     let left = c.keep_key.ensures in
     let words = c.run_for_key.new.key.items in
     let number = c.in_ok-given.given in
-    let meets = c.in_ok-run_for_key.ensures.meets in
+    let meets = c.in_ok-hash.ensures.meets in
     let between = (words_seen keyed.store.now).present in
     let after = (words_seen c.keep_key.new.self).present in
     let key = key_in c.texts.result.now c.deref.result.now in
     let same_key : key ≡ key_in keyed.store.now.texts words =
     ap (λ t. key_in t c.deref.result.now) c.texts.ensures ∙ ap (key_in given.store.now.texts) c.deref.ensures.value
-    ∙ key_kept keyed.store.now.texts given.store.now.texts c.in_ok-given.ensures.kept words c.in_ok-run_for_key.ensures.within in
+    ∙ key_kept keyed.store.now.texts given.store.now.texts c.in_ok-given.ensures.kept words c.in_ok-hash.ensures.within in
     let fits : FitsSigned w64 number = search rules in
     let noted = subst (λ y. NotesEffect f.number (ef.Adds c.args.index key y) (piece_seen c.args.piece.now) (piece_seen c.note_contribution_of_words.new.self))
     (to_z-of_z w64 number fits) (c.in_ok-note_contribution_of_words.ensures.notes f.number) in

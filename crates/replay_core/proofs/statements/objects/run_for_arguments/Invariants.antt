@@ -1,4 +1,4 @@
-use Rattle.std.proofs.Common.{◌≡◌, ◌++◌, drop}
+use Rattle.std.proofs.Common.{◌≡◌, ◌++◌, drop, map}
 use Rattle.d_types.specs.Expressions.{Has, with}
 use Rattle.dif_codegen.specs.Meaning.{values_of_objects}
 use Rattle.replay_core.specs.Evaluation.{Stays, variables_in}
@@ -7,5 +7,5 @@ use Rattle.replay_core.proofs.statements.objects.run_for_arguments.Given as goal
 
 abbrev pub invariant-loop-object : goal.invariant-loop-object
 invariant-loop-object l =
-    Stays words_seen l.fn.state l.state × (with (values_of_objects l.state.firing.now (drop l.object-index l.objects) (variables_in words_seen l.state)) (λ values. Has (l.values.items ++ values))
-    ≡ values_of_objects l.fn.state.firing.now l.objects (variables_in words_seen l.fn.state))
+    Stays words_seen l.fn.state l.state × (with (values_of_objects l.state.firing.now (map (λ x. x.returns) (drop l.object-index l.objects)) (drop l.object-index l.objects) (variables_in words_seen l.state)) (λ values. Has (l.values.items ++ values))
+    ≡ values_of_objects l.fn.state.firing.now (map (λ x. x.returns) l.objects) l.objects (variables_in words_seen l.fn.state))

@@ -1,4 +1,4 @@
-use Rattle.std.proofs.Common.{refl, rules, subst}
+use Rattle.std.proofs.Common.{map, refl, rules, subst}
 use Rattle.d_types.specs.declared.effect.Effect.TheVariants as ef
 use Rattle.d_types.specs.Printing.{printf_text}
 use Rattle.replay_core.specs.Steps.Effects.{NotesEffect}
@@ -20,7 +20,7 @@ returns-clause-effect g c =
     let same = number_stays g.X.Store.Store.seen c.args.state.now c.evaluate_arguments.new.state c.in_ok-arguments.ensures.0 in
     let noted = subst (λ n. NotesEffect n (ef.Says c.in_ok-text.text) (piece_seen c.args.piece.now) (piece_seen c.note_text.new.self)) same c.in_ok-note_text.ensures.notes in (
       c.in_ok-arguments.ensures.0,
-      says f.number (by.values c.args.arguments.now vars) (printf_text c.args.format.now) c.in_ok-arguments.arguments c.in_ok-text.text
+      says f.number (by.values (map g.X.Expression.returned c.args.arguments.now) c.args.arguments.now vars) (printf_text c.args.format.now) c.in_ok-arguments.arguments c.in_ok-text.text
           (piece_seen c.args.piece.now) (piece_seen c.note_text.new.self) (variables_in g.X.Store.Store.seen c.evaluate_arguments.new.state)
           c.in_ok-arguments.ensures.1 (search rules) noted,
     )

@@ -20,7 +20,7 @@ returns-clause-effect g c =
     let same = number_stays g.X.Store.Store.seen c.args.state.now c.evaluate.new.state c.in_ok-value.ensures.0 in
     let noted = subst (λ n. NotesEffect n (ef.Says c.in_ok-text.text) (piece_seen c.args.piece.now) (piece_seen c.note_text.new.self)) same c.in_ok-note_text.ensures.notes in (
       c.in_ok-value.ensures.0,
-      says f.number (by.value c.args.e.now vars) (trace_line (by.type c.args.e.now)) c.in_ok-value.value c.in_ok-text.text
+      says f.number (by.value c.args.e.now vars) (trace_line (g.X.Expression.returned c.args.e.now)) c.in_ok-value.value c.in_ok-text.text
           (piece_seen c.args.piece.now) (piece_seen c.note_text.new.self) (variables_in g.X.Store.Store.seen c.evaluate.new.state)
           c.in_ok-value.ensures.1 (search rules) noted,
     )

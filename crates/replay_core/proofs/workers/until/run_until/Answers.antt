@@ -1,4 +1,4 @@
-use Rattle.std.proofs.Common.{rules, ◌≡◌, ◌+◌, ◌<◌, [], ◌∷◌, ◌++◌, arith, length, take, drop}
+use Rattle.std.proofs.Common.{◌≡◌, ◌+◌, ◌<◌, [], ◌∷◌, ◌++◌, arith, length, take, drop}
 use Rattle.std.proofs.Common.{get_or, min, sym, ap, ◌∙◌, subst, append_assoc, List}
 use Rattle.std.specs.Prelude.{slice_index}
 use Rattle.std.proofs.lemmas.List.{get_or_default, length-map}
@@ -39,8 +39,8 @@ fire-requires-clause-few g c =
     let inside = c.loop-index-test.true in
     omega (arith, taken, same, few, most, all, inside)
 
-pub returns-then-is_past_exit-clause-run : goal.returns-then-is_past_exit-clause-run
-returns-then-is_past_exit-clause-run g c = λ m runs are.
+pub returns-then-least-firing-clause-run : goal.returns-then-least-firing-clause-run
+returns-then-least-firing-clause-run g c = λ m runs are.
     let inv = c.loop-index.invariant in
     let i = c.loop-index.index-index in
     let indices = c.args.indices.now in
@@ -51,8 +51,8 @@ returns-then-is_past_exit-clause-run g c = λ m runs are.
     let before = firings_at run (take i indices) in
     let rest = firings_at run (drop (i + 1) indices) in
     let all = at_parts run indices i ∙ ap (λ l. before ++ l) (at_next run indices i index f (omega arith) item c.firing_at-firing.ensures.firing) in
-    let over : g.S.Source.seen c.is_past_exit.new.seat < f.number = c.is_past_exit.ensures.past c.if-is_past_exit.true in
-    (before, ended_by_number m (g.S.Source.seen c.is_past_exit.new.seat) before f rest (firings_at run indices) (inv.none m runs are) over all, inv.run m runs are)
+    let over : g.S.Source.seen c.least.new.seat < f.number = subst (λ n. n < f.number) (sym c.least.ensures.seen) c.if-least-firing.true in
+    (before, ended_by_number m (g.S.Source.seen c.least.new.seat) before f rest (firings_at run indices) (inv.none m runs are) over all, inv.run m runs are)
 
 pub returns-then-branch-clause-run : goal.returns-then-branch-clause-run
 returns-then-branch-clause-run g c = λ m runs are.
@@ -70,7 +70,7 @@ returns-then-branch-clause-run g c = λ m runs are.
     let here = inv.script m runs are in
     let exits = sym c.if-branch.true ∙ c.in_ok-fire.ensures.exits m here (selected_is m c.args.input.now.trace.now c.args.input.now.selections.now are (slice_index c.args.indices.now c.loop-index.index-index) c.firing_at-firing.result c.at.result c.firing_at-firing.ensures.firing c.at.ensures) in (
       before ++ f ∷ [],
-      ended_by_exit m (g.S.Source.seen c.tell_exit.new.seat) before f rest (firings_at run indices) old.threads (inv.run m runs are).threads (inv.none m runs are) exits all,
+      ended_by_exit m (g.S.Source.seen c.lower.new.seat) before f rest (firings_at run indices) old.threads (inv.run m runs are).threads (inv.none m runs are) exits all,
       fires_more m before f old (g.E.Engine.seen c.fire.new.lane) (inv.run m runs are) (c.in_ok-fire.ensures.step m here (selected_is m c.args.input.now.trace.now c.args.input.now.selections.now are (slice_index c.args.indices.now c.loop-index.index-index) c.firing_at-firing.result c.at.result c.firing_at-firing.ensures.firing c.at.ensures)),
     )
 
@@ -87,7 +87,7 @@ returns-then-branch-clause-least g c = λ m runs are.
     let here = inv.script m runs are in
     let exits = sym c.if-branch.true ∙ c.in_ok-fire.ensures.exits m here (selected_is m c.args.input.now.trace.now c.args.input.now.selections.now are (slice_index c.args.indices.now c.loop-index.index-index) c.firing_at-firing.result c.at.result c.firing_at-firing.ensures.firing c.at.ensures) in
     let lane = fires_more m before f old (g.E.Engine.seen c.fire.new.lane) (inv.run m runs are) (c.in_ok-fire.ensures.step m here (selected_is m c.args.input.now.trace.now c.args.input.now.selections.now are (slice_index c.args.indices.now c.loop-index.index-index) c.firing_at-firing.result c.at.result c.firing_at-firing.ensures.firing c.at.ensures)) in
-    c.tell_exit.ensures.lowered ∙ ap (λ n. min n f.number) (c.is_past_exit.ensures.lowered ∙ inv.lowered)
+    c.lower.ensures.lowered ∙ ap (λ n. min n f.number) (c.least.ensures.lowered ∙ inv.lowered)
     ∙ now_lowered m before f old.threads number (inv.run m runs are).threads (inv.none m runs are) exits
     ∙ ap (lesser_of number) (sym lane.piece.exit)
 
@@ -103,14 +103,13 @@ loop-index-preserved g c =
     let item : get_or indices i index ≡ index = get_or_default indices i index 0 (omega arith) in
     let before = firings_at run (take i indices) in
     let more = at_more run indices i index f (omega arith) item c.firing_at-firing.ensures.firing in
-    let looked = c.is_past_exit.ensures in
+    let looked = c.least.ensures in
     record {
-      at = looked.seat;
-      list = looked.list ∙ inv.list;
-      seen = let a = looked.seen in let d = inv.seen in omega arith;
+      at = looked.seat.0;
+      handed = looked.seat.1 ∙ inv.handed;
+      seen = let a = looked.seen in let b = looked.own.1 in let d = inv.seen in omega (arith, a, b, d);
       lowered = looked.lowered ∙ inv.lowered;
       script = λ m runs are. c.fire.ensures.script m (inv.script m runs are) (selected_is m c.args.input.now.trace.now c.args.input.now.selections.now are (slice_index c.args.indices.now c.loop-index.index-index) c.firing_at-firing.result c.at.result c.firing_at-firing.ensures.firing c.at.ensures);
-      unspent = search rules;
       none = λ m runs are. ap (exit_over m) more ∙ still_none m before f old.threads (inv.run m runs are).threads (inv.none m runs are) (sym c.if-branch.false ∙ c.in_ok-fire.ensures.exits m (inv.script m runs are) (selected_is m c.args.input.now.trace.now c.args.input.now.selections.now are (slice_index c.args.indices.now c.loop-index.index-index) c.firing_at-firing.result c.at.result c.firing_at-firing.ensures.firing c.at.ensures));
       run = λ m runs are. subst (λ (l : List Firing). IsLaneOf m l (g.E.Engine.seen c.fire.new.lane)) (sym more)
           (fires_more m before f old (g.E.Engine.seen c.fire.new.lane) (inv.run m runs are) (c.in_ok-fire.ensures.step m (inv.script m runs are) (selected_is m c.args.input.now.trace.now c.args.input.now.selections.now are (slice_index c.args.indices.now c.loop-index.index-index) c.firing_at-firing.result c.at.result c.firing_at-firing.ensures.firing c.at.ensures)));

@@ -1,5 +1,4 @@
 use Rattle.std.proofs.Common.{◌≡◌, ◌≤◌, None, take}
-use Rattle.std.specs.Prelude.{IsFalse}
 use Rattle.d_types.specs.Typed.{ScriptMeant}
 use Rattle.firings.specs.Ends.{with_ends}
 use Rattle.replay_core.specs.Beginnings.{exit_over}
@@ -11,11 +10,10 @@ use Rattle.replay_core.proofs.workers.until.run_until.Given as goal
 abbrev pub invariant-loop-index : goal.invariant-loop-index
 invariant-loop-index g l = record {
   at : g.S.Source.is_at l.source l.seat;
-  list : g.S.Source.list l.seat ≡ g.S.Source.list l.fn.seat;
+  handed : g.S.Source.handed l.seat ≡ g.S.Source.handed l.fn.seat;
   seen : g.S.Source.seen l.seat ≤ g.S.Source.seen l.fn.seat;
   lowered : g.S.Source.lowered l.seat ≡ g.S.Source.lowered l.fn.seat;
   script : (m : ScriptMeant) → g.E.Engine.runs l.fn.lane m → AreFor l.input.trace.now l.input.selections.now m → g.E.Engine.runs l.lane m;
-  unspent : IsFalse (g.E.Engine.is_spent l.lane);
   none : (m : ScriptMeant) → g.E.Engine.runs l.fn.lane m → AreFor l.input.trace.now l.input.selections.now m → exit_over m (firings_at (with_ends l.input.trace.now l.input.trace.now) (take l.index-index l.fn.indices)) ≡ None;
   run : (m : ScriptMeant) → g.E.Engine.runs l.fn.lane m → AreFor l.input.trace.now l.input.selections.now m → IsLaneOf m (firings_at (with_ends l.input.trace.now l.input.trace.now) (take l.index-index l.fn.indices)) (g.E.Engine.seen l.lane);
 }

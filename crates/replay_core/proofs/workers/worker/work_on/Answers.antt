@@ -13,7 +13,7 @@ loop-preserved g c =
     let taken = c.in-Some-take.ensures in
     record {
       at = taken.seat;
-      groups = groups_more _ _ _ _ _ added.pushed i.groups taken.some.2;
+      groups = groups_more _ _ _ _ _ added.pushed i.groups taken.next.some.2;
       pieces = record {
         each = λ m runs. all_push (IsOfGroup m (grouping w.groups.now) (firings_in c.args.span w.trace.now)) _ _ _ (i.pieces.each m runs) (added.is.0 m runs) added.pushed;
         roomy = all_push (λ p. IsRoomy p.1) _ _ _ i.pieces.roomy added.is.1 added.pushed;

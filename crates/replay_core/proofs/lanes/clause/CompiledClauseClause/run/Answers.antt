@@ -1,12 +1,11 @@
-use Rattle.std.specs.Prelude.{◌≤◌, length, map}
-use Rattle.std.proofs.Common.{arith, subst, sym, ap, ◌∙◌}
+use Rattle.std.specs.Prelude.{length, map}
+use Rattle.std.proofs.Common.{subst, sym, ap, ◌∙◌}
 use Rattle.std.proofs.lemmas.Result.{IfOk-weaker}
-use Rattle.aggregations.specs.Table.{functions_of}
 use Rattle.d_types.specs.Clauses.{fault_line}
 use Rattle.dif_codegen.specs.Meaning.{by_objects}
 use Rattle.dif_codegen.specs.Programs.{action_code}
 use Rattle.replay_core.specs.Bounds.{indices_among}
-use Rattle.replay_core.specs.Effects.{NotesRun}
+use Rattle.replay_core.specs.Effects.{CanNote, HasMore, NotesRun}
 use Rattle.replay_core.specs.Evaluation.{variables_in}
 use Rattle.replay_core.specs.WordStore.{words_seen}
 use Rattle.replay_core.specs.Seen.{piece_seen}
@@ -14,21 +13,12 @@ use Rattle.replay_core.specs.Steps.EffectRuns.{ran_by}
 use Rattle.replay_core.proofs.EffectRuns.{run_by_is}
 use Rattle.replay_core.proofs.lanes.clause.CompiledClauseClause.run.Goals as goal
 
-pub run_clause-requires-clause-indices : goal.run_clause-requires-clause-indices
-run_clause-requires-clause-indices c =
-    subst (λ l. indices_among (map action_code l) ≤ length (functions_of c.args.piece.now.table)) (sym c.deref.ensures.value) c.requires.indices
+pub run_clause-requires : goal.run_clause-requires
+run_clause-requires c =
+    subst (λ l. CanNote (indices_among (map action_code l)) (length l) c.args.state.now c.args.piece.now) (sym c.deref.ensures.value) c.requires
 
-pub run_clause-requires-clause-room : goal.run_clause-requires-clause-room
-run_clause-requires-clause-room c =
-    let long = ap length c.deref.ensures.value in
-    let room = c.requires.room in
-    omega (arith, long, room)
-
-pub returns-clause-held : goal.returns-clause-held
-returns-clause-held c =
-    let long = ap length c.deref.ensures.value in
-    let held = c.run_clause.ensures.held in
-    omega (arith, long, held)
+pub returns-clause-more : goal.returns-clause-more
+returns-clause-more c = subst (λ l. HasMore (length l) c.args.piece.now c.run_clause.new.piece) c.deref.ensures.value c.run_clause.ensures.more
 
 pub returns-clause-run : goal.returns-clause-run
 returns-clause-run c =

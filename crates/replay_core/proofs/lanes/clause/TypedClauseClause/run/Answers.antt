@@ -1,12 +1,11 @@
-use Rattle.std.specs.Prelude.{◌≤◌, length, map}
-use Rattle.std.proofs.Common.{arith, subst, sym, ap, ◌∙◌}
+use Rattle.std.specs.Prelude.{length, map}
+use Rattle.std.proofs.Common.{subst, sym, ap, ◌∙◌}
 use Rattle.std.proofs.lemmas.List.{length-map}
 use Rattle.std.proofs.lemmas.Result.{IfOk-weaker}
-use Rattle.aggregations.specs.Table.{functions_of}
 use Rattle.d_types.specs.Clauses.{fault_line, run_of}
-use Rattle.d_types.specs.Typed.{action_of}
-use Rattle.replay_core.specs.Bounds.{indices_among}
-use Rattle.replay_core.specs.Effects.{NotesRun}
+use Rattle.d_types.specs.Typed.{action_of, meant_of}
+use Rattle.replay_core.specs.Bounds.{indices_among, indices_in}
+use Rattle.replay_core.specs.Effects.{CanNote, HasMore, NotesRun}
 use Rattle.replay_core.specs.Evaluation.{variables_in}
 use Rattle.replay_core.specs.Threads.{tables_seen}
 use Rattle.replay_core.specs.Forms.{by_expressions, statement_form}
@@ -15,25 +14,18 @@ use Rattle.replay_core.specs.Steps.EffectRuns.{ran_by}
 use Rattle.replay_core.proofs.FormLemmas.{indices_same, run_same}
 use Rattle.replay_core.proofs.lanes.clause.TypedClauseClause.run.Goals as goal
 
-pub run_clause-requires-clause-indices : goal.run_clause-requires-clause-indices
-run_clause-requires-clause-indices c =
-    let n = length (functions_of c.args.piece.now.table) in
-    subst (λ l. indices_among (map statement_form l) ≤ n) (sym c.deref.ensures.value)
-    (subst (λ k. k ≤ n) (sym (indices_same c.args.self.now.statements.items)) c.requires.indices)
+pub run_clause-requires : goal.run_clause-requires
+run_clause-requires c =
+    let statements = c.args.self.now.statements.items in
+    let state = c.args.state.now in
+    let piece = c.args.piece.now in
+    subst (λ l. CanNote (indices_among (map statement_form l)) (length l) state piece) (sym c.deref.ensures.value)
+    (subst (λ k. CanNote k (length statements) state piece) (sym (indices_same statements))
+    (subst (λ n. CanNote (indices_in (meant_of c.args.self.now)) n state piece) (length-map statements action_of) c.requires))
 
-pub run_clause-requires-clause-room : goal.run_clause-requires-clause-room
-run_clause-requires-clause-room c =
-    let many = length-map c.args.self.now.statements.items action_of in
-    let long = ap length c.deref.ensures.value in
-    let room = c.requires.room in
-    omega (arith, many, long, room)
-
-pub returns-clause-held : goal.returns-clause-held
-returns-clause-held c =
-    let many = length-map c.args.self.now.statements.items action_of in
-    let long = ap length c.deref.ensures.value in
-    let held = c.run_clause.ensures.held in
-    omega (arith, many, long, held)
+pub returns-clause-more : goal.returns-clause-more
+returns-clause-more c =
+    subst (λ n. HasMore n c.args.piece.now c.run_clause.new.piece) (ap length c.deref.ensures.value ∙ sym (length-map c.args.self.now.statements.items action_of)) c.run_clause.ensures.more
 
 pub returns-clause-run : goal.returns-clause-run
 returns-clause-run c =

@@ -11,16 +11,19 @@ use Rattle.replay_core.specs.WordStore.{WordsSeen, words_seen}
 use Rattle.replay_core.proofs.WordLemmas.{others_stay, returns_by, thread_stays, within_by}
 use Rattle.replay_core.proofs.lanes.word_store.Words.run.Goals as goal
 
-pub run_on-run-requires-clause-known : goal.run_on-run-requires-clause-known
-run_on-run-requires-clause-known c =
+pub run_on-run-requires : goal.run_on-run-requires
+run_on-run-requires c =
     let f = c.args.firing.now in
-    ∥∥₁_elim c.requires (Knows-prop f c.self.inside.machine.known) (λ (known : Knows f c.args.self.now.known). subst (λ (w : WordsSeen). Knows f w.known) (sym c.self.view_is) known)
+    record {
+      known = ∥∥₁_elim c.requires (Knows-prop f c.self.inside.machine.known) (λ (known : Knows f c.args.self.now.known). subst (λ (w : WordsSeen). Knows f w.known) (sym c.self.view_is) known);
+      over = c.self.invariant.over;
+    }
 
 pub invariant_of-self : goal.invariant_of-self
 invariant_of-self c = record {
-  over = c.run_on-run.ensures.over;
-  is = thread_stays c.self.inside.machine.texts c.run_on-run.new.machine.texts c.run_on-run.ensures.kept c.self.inside.memory.table c.run_on-run.new.memory.table c.self.invariant.over.0
-      c.self.inside.memory.thread c.run_on-run.new.memory.thread c.run_on-run.ensures.beside ∙ c.self.invariant.is;
+  over = c.run_on-run.ensures.run.ready.over;
+  is = thread_stays c.self.inside.machine.texts c.run_on-run.new.machine.texts c.run_on-run.ensures.run.kept c.self.inside.memory.table c.run_on-run.new.memory.table c.self.invariant.over.0
+      c.self.inside.memory.thread c.run_on-run.new.memory.thread c.run_on-run.ensures.run.beside ∙ c.self.invariant.is;
   fits = c.self.invariant.fits;
 }
 
@@ -35,15 +38,15 @@ returns-clause-meets c =
     (returns_by _ texts c.run_on-run.result c.evaluated.result left c.evaluated.ensures c.run_on-run.ensures.meant)
 
 pub returns-clause-within : goal.returns-clause-within
-returns-clause-within c = within_by c.run_on-run.new.machine.texts c.run_on-run.result c.evaluated.result c.evaluated.ensures c.run_on-run.ensures.within
+returns-clause-within c = within_by c.run_on-run.new.machine.texts c.run_on-run.result c.evaluated.result c.evaluated.ensures c.run_on-run.ensures.run.within
 
 pub returns-clause-kept : goal.returns-clause-kept
-returns-clause-kept c = subst (λ (w : WordsSeen). Keeps w.texts c.run_on-run.new.machine.texts) c.self.view_is c.run_on-run.ensures.kept
+returns-clause-kept c = subst (λ (w : WordsSeen). Keeps w.texts c.run_on-run.new.machine.texts) c.self.view_is c.run_on-run.ensures.run.kept
 
 pub returns-clause-others : goal.returns-clause-others
 returns-clause-others c =
     let old = c.self.inside in
     let memory = c.run_on-run.new.memory in
-    others_stay old.machine.texts c.run_on-run.new.machine.texts c.run_on-run.ensures.kept old.memory.table memory.table c.self.invariant.over.0 old.memory.thread memory.thread
-    c.run_on-run.ensures.beside old.thread c.self.invariant.fits c.self.invariant.is
+    others_stay old.machine.texts c.run_on-run.new.machine.texts c.run_on-run.ensures.run.kept old.memory.table memory.table c.self.invariant.over.0 old.memory.thread memory.thread
+    c.run_on-run.ensures.run.beside old.thread c.self.invariant.fits c.self.invariant.is
     ∙ ap (λ (w : WordsSeen). (words_seen w).others) c.self.view_is
