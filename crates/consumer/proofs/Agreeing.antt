@@ -1,12 +1,12 @@
 -- Two replays give the same, under whatever plans.
 use Rattle.std.proofs.Common.{◌≡◌, ◌⊎◌, ⊎_elim, inl, inr, ℕ, List}
-use Rattle.std.specs.Prelude.{Result, Ok, Err}
+use Rattle.std.specs.Prelude.{Ok, Err}
 use Rattle.consumer.specs.declared.plan.Plan.{Plan}
 use Rattle.consumer.specs.declared.plan.Replayed.{Replayed}
 use Rattle.consumer.specs.declared.refusal.Refusal.{Refusal}
 use Rattle.consumer.specs.Answer.{IsAnswer, without_line}
 use Rattle.consumer.specs.Replaying.{IsOfPlan, IsReplay, output_of}
-use Rattle.replay_core.specs.Layouts.{LayoutMeant, ShowsEach}
+use Rattle.replay_core.specs.Layouts.{LayoutMeant, IsDeterministic}
 use Rattle.consumer.proofs.Answers.{one_answer}
 use Rattle.consumer.proofs.Refusing.{refusal_or_plan}
 
@@ -17,7 +17,7 @@ module _ (shows : LayoutMeant) (script trace : List ℕ) where
   pub refusal_answers : (plan : Plan) (e : Refusal) → IsReplay shows script trace plan (Err e) → IsAnswer shows script trace (Err e) ⊎ IsOfPlan e
   refusal_answers plan e is = refusal_or_plan plan script trace e is.fault
 
-module _ (shows : LayoutMeant) (each : ShowsEach shows) (script trace : List ℕ) where
+module _ (shows : LayoutMeant) (each : IsDeterministic shows) (script trace : List ℕ) where
   pub shown_agree : (p q : Plan) (a b : Replayed) → IsReplay shows script trace p (Ok a) → IsReplay shows script trace q (Ok b)
       → (a.bytes.items ≡ b.bytes.items) × (a.status ≡ b.status)
   shown_agree p q a b x y =

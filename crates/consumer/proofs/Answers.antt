@@ -23,7 +23,7 @@ use Rattle.replay_core.specs.Layouts.{LayoutMeant}
 use Rattle.consumer.specs.declared.refusal.Refusal.{Refusal}
 use Rattle.consumer.specs.declared.refusal.Refusal.TheVariants.{Lex, Parse, Typing, Trace, Group}
 use Rattle.consumer.specs.declared.refusal.Refusal.TheVariants.{Memory}
-use Rattle.consumer.specs.Answer.{IsAnswer, IsRefusal, IsSameAnswer, IsShown, Means, Shown}
+use Rattle.consumer.specs.Answer.{IsAnswer, IsRefusal, IsSameAnswer, HasOutput, Denote, Output}
 use Rattle.consumer.specs.Answer.{without_line}
 use Rattle.consumer.specs.Scripts.{HasTree, IsAccepted, IsMistyped, IsParseFault, IsScriptFault}
 use Rattle.consumer.specs.Scripts.{IsUnread}
@@ -129,7 +129,7 @@ accepted_not_refused script m (Group f) a r = r
 accepted_not_refused script m Memory a r = r
 
 -- where something is refused there is no run
-pub no_run : (script trace : List ℕ) (e : Refusal) → IsRefusal script trace e → (m : ScriptMeant) (firings : List Firing) → ¬ Means script trace m firings
+pub no_run : (script trace : List ℕ) (e : Refusal) → IsRefusal script trace e → (m : ScriptMeant) (firings : List Firing) → ¬ Denote script trace m firings
 no_run script trace (Trace f) r m firings is = let read = is.reads in let refused = r.1 in cc
 no_run script trace (Lex f) r m firings is = accepted_not_refused script m (Lex f) is.accepted r
 no_run script trace (Parse f) r m firings is = accepted_not_refused script m (Parse f) is.accepted r
@@ -149,13 +149,13 @@ same_meaning script m n a b =
 abbrev pub ShowsOne : LayoutMeant → Type 0
 ShowsOne shows = (m : ScriptMeant) (run : List (Firing × Made)) (xs ys : List ℕ) → shows m run xs → shows m run ys → xs ≡ ys
 
-same_shown : (shows : LayoutMeant) → ShowsOne shows → (script trace : List ℕ) (x y : Shown) → IsAnswer shows script trace (Ok x) → IsAnswer shows script trace (Ok y) → IsSameAnswer (Ok x) (Ok y)
+same_shown : (shows : LayoutMeant) → ShowsOne shows → (script trace : List ℕ) (x y : Output) → IsAnswer shows script trace (Ok x) → IsAnswer shows script trace (Ok y) → IsSameAnswer (Ok x) (Ok y)
 same_shown shows one script trace x y o p =
     let meaning = same_meaning script p.0 o.0 p.2.accepted o.2.accepted in
     let read = p.2.reads in
     let read' = o.2.reads in
     let firings : p.1 ≡ o.1 = cc in
-    let shown : IsShown shows o.0 o.1 y = subst (λ m. IsShown shows m o.1 y) meaning (subst (λ fs. IsShown shows p.0 fs y) firings p.3) in
+    let shown : HasOutput shows o.0 o.1 y = subst (λ m. HasOutput shows m o.1 y) meaning (subst (λ fs. HasOutput shows p.0 fs y) firings p.3) in
     (one o.0 _ x.bytes y.bytes o.3.bytes shown.bytes, o.3.status ∙ sym shown.status)
 
 -- ---- one answer
@@ -192,7 +192,7 @@ same_refusal script trace (Trace f) Memory o p = absurd p
 same_refusal script trace (Group f) e o p = absurd o
 same_refusal script trace Memory e o p = absurd o
 
-pub one_answer : (shows : LayoutMeant) → ShowsOne shows → (script trace : List ℕ) (a b : Result Shown Refusal) → IsAnswer shows script trace a → IsAnswer shows script trace b
+pub one_answer : (shows : LayoutMeant) → ShowsOne shows → (script trace : List ℕ) (a b : Result Output Refusal) → IsAnswer shows script trace a → IsAnswer shows script trace b
     → IsSameAnswer a b
 one_answer shows one script trace (Ok x) (Ok y) o p = same_shown shows one script trace x y o p
 one_answer shows one script trace (Ok x) (Err f) o p = absurd (no_run script trace f p o.0 o.1 o.2)

@@ -9,11 +9,9 @@ use Rattle.clap.specs.declared.error.kind.ErrorKind.TheVariants.{OutOfMemory, Un
 use Rattle.clap.specs.declared.error.kind.ErrorKind.{ErrorKind}
 use Rattle.clap.proofs.OnLiterals.{clap_on_literals}
 use Rattle.consumer.specs.Words.{Asks, AsksHelp, HasPlan, IsRequestIn, IsFaultOf, IsNumberIn, IsOption}
-use Rattle.consumer.specs.Words.{IsPlanBy, IsPlanIn, IsOptionValue, Mistakes}
+use Rattle.consumer.specs.Words.{IsPlanBy, IsPlanIn, Mistakes}
 use Rattle.consumer.specs.Steps.Words.{IsPlanFault, IsReportedAs}
-use Rattle.consumer.specs.Words.{AskForRun}
-use Rattle.consumer.specs.Words.{SetPlan, engine_called}
-use Rattle.consumer.specs.Words.{file_in, program}
+use Rattle.consumer.specs.Words.{AskForRun, SetPlan, engine_called, file_in, program}
 use Rattle.std.specs.Prelude.{◌≤◌, IfErr, IsSomeAnd, MatchResult, Result, Ok, Err, option_and_then}
 use Rattle.std.proofs.lemmas.Option.{same_Some}
 use Rattle.consumer.specs.Plans.{IsDefault}

@@ -26,20 +26,20 @@ use Rattle.d_types.specs.Checking.{IsChecked}
 use Rattle.d_types.specs.Typed.{ScriptMeant}
 use Rattle.d_types.proofs.Checked as types
 use Rattle.replay_core.specs.Exit.{exit_status, history_over}
-use Rattle.replay_core.specs.Layouts.{LayoutMeant, ShowsEach}
+use Rattle.replay_core.specs.Layouts.{LayoutMeant, IsDeterministic}
 use Rattle.consumer.specs.declared.refusal.Refusal.{Refusal}
 use Rattle.consumer.specs.declared.refusal.Refusal.TheVariants.{Lex, Parse, Typing, Trace}
-use Rattle.consumer.specs.Answer.{IsAnswer, Shown}
+use Rattle.consumer.specs.Answer.{IsAnswer, Output}
 use Rattle.consumer.specs.Scripts.{HasTokens, HasTree, IsAccepted}
 
 abbrev HasSome : LayoutMeant → (script trace : List ℕ) → Type 0
-HasSome shows script trace = (a : Result Shown Refusal) × IsAnswer shows script trace a
+HasSome shows script trace = (a : Result Output Refusal) × IsAnswer shows script trace a
 
-module _ (shows : LayoutMeant) (each : ShowsEach shows) (script trace : List ℕ) where
+module _ (shows : LayoutMeant) (each : IsDeterministic shows) (script trace : List ℕ) where
   over_trace : (m : ScriptMeant) → IsAccepted script m → (r : Result (List Firing) TraceFault) → trace_of trace ≡ r → HasSome shows script trace
   over_trace m a (Ok fs) e =
       let out = each.some m (history_over m fs) in
-      let shown : Shown = record { bytes = out.0; status = exit_status (history_over m fs) } in
+      let shown : Output = record { bytes = out.0; status = exit_status (history_over m fs) } in
       (Ok shown, (m, fs, record { accepted = a; reads = e }, record { bytes = out.1; status = refl }))
   over_trace m a (Err f) e = (Err (Trace f), ((m, a), e))
 

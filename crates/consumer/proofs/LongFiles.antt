@@ -1,6 +1,6 @@
 -- The script in a file that is read until it is too long.
 use Rattle.std.proofs.Common.{◌≡◌, ◌<◌, ◌≤◌, ⊎_elim, inl, inr, ℕ, List, Option, None, Some}
-use Rattle.std.proofs.Common.{Result, Ok, Err, IfSome, length, length-append, refl, ap, ◌∙◌, subst, arith}
+use Rattle.std.proofs.Common.{Result, Ok, Err, IfSome, OnOk, length, length-append, refl, ap, ◌∙◌, subst, arith}
 use Rattle.std.proofs.Common.{rules}
 use Rattle.d_lexer.specs.declared.fault.LexFault.{LexFault}
 use Rattle.d_lexer.specs.declared.fault.LexFault.TheVariants as lex
@@ -18,6 +18,7 @@ use Rattle.consumer.specs.declared.refusal.Refusal.TheVariants.{Lex, Parse, Typi
 use Rattle.consumer.specs.declared.refusal.Refusal.TheVariants.{Memory}
 use Rattle.consumer.specs.Consuming.{HoldsOfInput, WritesAnswer, WritesOver}
 use Rattle.consumer.specs.Replaying.{IsRefusalUnder, IsReplay}
+use Rattle.consumer.specs.{Steps.Judging.IsJudged, Vocabulary.TypedScript}
 use Rattle.consumer.specs.Scripts.{IsParseFault}
 use Rattle.consumer.specs.Steps.Files.{IsScriptIn}
 use Rattle.consumer.proofs.Refusing.{refused}
@@ -38,6 +39,16 @@ module _ (script all : List ℕ) (long : 65536 < length script) (all_long : 6553
   parsed_alike parse.TooManyClauses p = absurd (unlexed p.0 p.1)
   parsed_alike (parse.Syntax line) p = absurd (unlexed p.0 p.1.lexed)
   parsed_alike parse.Memory p = p
+
+  -- a script is judged as a longer one is
+  pub judged_alike : (judged : Result TypedScript Refusal) (trace rest : List ℕ) → IsJudged script judged → IsJudged all judged × OnOk judged (trace ≡ rest)
+  judged_alike (Ok typed) trace rest is = let tree = is.tree in absurd (unlexed tree.tokens tree.has.lexed)
+  judged_alike (Err (Lex fault)) trace rest is = (refused_alike fault is, tt)
+  judged_alike (Err (Parse fault)) trace rest is = (parsed_alike fault is, tt)
+  judged_alike (Err (Typing fault)) trace rest is = let tree = is.tree in absurd (unlexed tree.tokens tree.has.lexed)
+  judged_alike (Err (Trace fault)) trace rest is = absurd is
+  judged_alike (Err (Group fault)) trace rest is = absurd is
+  judged_alike (Err Memory) trace rest is = (tt, tt)
 
   reason_alike : (trace : List ℕ) (plan : Plan) (e : Refusal) → IsRefusalUnder plan script trace e → IsRefusalUnder plan all trace e
   reason_alike trace plan (Lex fault) is = refused_alike fault is

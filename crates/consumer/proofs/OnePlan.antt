@@ -4,7 +4,7 @@ use Rattle.std.proofs.Common.{arith}
 use Rattle.std.specs.Prelude.{ℤ, Some, Ok, Err, refl}
 use Rattle.std.specs.Cmp.{int_cmp_total}
 use Rattle.replay_core.specs.{Exit.firings_over, Groups.numbers_by_group}
-use Rattle.replay_core.specs.Layouts.{LayoutMeant, ShowsEach}
+use Rattle.replay_core.specs.Layouts.{LayoutMeant, IsDeterministic}
 use Rattle.report.proofs.Unique.{same_list}
 use Rattle.shard_queue.specs.Faults.{thread_fault, IsListFault}
 use Rattle.shard_queue.specs.Groupings.{grouping_in_turn}
@@ -100,7 +100,7 @@ module _ (shows : LayoutMeant) (script trace : List ℕ) (plan : Plan) where
       not_both plan.groups x.1 x.3.grouping e x.3.grouped (subst (λ fs. IsMisgrouped plan.groups fs e) firings y.3)
 
   -- where one replay answers, only memory makes another refuse
-  pub memory_alone : ShowsEach shows → (a : Replayed) (e : Refusal) → IsReplay shows script trace plan (Ok a) → IsReplay shows script trace plan (Err e) → e ≡ Memory
+  pub memory_alone : IsDeterministic shows → (a : Replayed) (e : Refusal) → IsReplay shows script trace plan (Ok a) → IsReplay shows script trace plan (Err e) → e ≡ Memory
   memory_alone each a (Lex f) x y = absurd (apart shows each script trace plan plan a (Lex f) x y)
   memory_alone each a (Parse f) x y = absurd (apart shows each script trace plan plan a (Parse f) x y)
   memory_alone each a (Typing f) x y = absurd (apart shows each script trace plan plan a (Typing f) x y)

@@ -1,6 +1,6 @@
 -- No refusal that replay returns is a fault's own want of memory.
 use Rattle.std.proofs.Common.{◌≡◌, ◌≢◌, ⊎_elim, ℕ, ℤ, Bool, true, false, cond, not, List, [], ◌∷◌}
-use Rattle.std.proofs.Common.{◌++◌, Option, Some, None, option_map, refl, sym, ◌∙◌, subst}
+use Rattle.std.proofs.Common.{◌++◌, Option, Some, None, option_map, refl, sym, ◌∙◌}
 use Rattle.std.specs.Prelude.{Err, ◌<◌, ◌≤◌, length}
 use Rattle.std.specs.Option.{option_or}
 use Rattle.d_lexer.specs.Faults.{on_line}
@@ -16,7 +16,7 @@ use Rattle.d_types.specs.declared.fault.TypeFault.{TypeFault}
 use Rattle.d_types.specs.declared.fault.TypeFault.TheVariants as types
 use Rattle.d_types.proofs.Checked.{fault_is_named}
 use Rattle.replay_core.specs.Layouts.{LayoutMeant}
-use Rattle.shard_queue.specs.Faults.{IsListFault, all_of, first_missing, first_wrong}
+use Rattle.shard_queue.specs.Faults.{IsListFault, all_of, first_wrong}
 use Rattle.shard_queue.specs.Threads.{has, items_of}
 use Rattle.shard_queue.specs.declared.fault.GroupFault.{GroupFault}
 use Rattle.shard_queue.specs.declared.fault.GroupFault.TheVariants as group
@@ -104,7 +104,7 @@ listed_never : (lists : List (List ℤ)) (fs : List Firing) → IsListFault list
 listed_never lists fs r =
     ⊎_elim
     (λ (many : (4096 < length lists) × (group.Memory ≡ group.TooMany)). let x = many.1 in cc)
-    (λ few. or_never (first_wrong few.1.0 [] (all_of lists)) (first_missing few.1.0 (all_of lists)) (wrong_never few.1.0 [] (all_of lists)) (missing_never _) few.1.2)
+    (λ few. or_never (first_wrong few.1.0 [] (all_of lists)) _ (wrong_never few.1.0 [] (all_of lists)) (missing_never _) few.1.2)
     r
 
 misgrouped_never : (p : GroupPlan) (fs : List Firing) → IsMisgrouped p fs group.Memory → ⊥

@@ -1,6 +1,6 @@
 -- A trace's fault, by its definition, is never want of memory.
 use Rattle.std.proofs.Common.{◌≡◌, ◌≢◌, ℕ, ◌+◌, Bool, true, false, cond, ◌==◌, nat_lt, List}
-use Rattle.std.proofs.Common.{[], ◌∷◌, Option, Some, None, length, map}
+use Rattle.std.proofs.Common.{[], ◌∷◌, Option, Some, None, length}
 use Rattle.std.specs.Prelude.{Result, Ok, Err, codes, not, ok_or}
 use Rattle.std.specs.Str.{bytes_eq}
 use Rattle.firing_reader.specs.Column.{Argument, Column, Content, Whole, Words, columns, fault_of}

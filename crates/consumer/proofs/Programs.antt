@@ -1,5 +1,5 @@
 -- Two runs of the program over the same known input and files agree.
-use Rattle.std.proofs.Common.{◌≡◌, ◌≢◌, ◌⊎◌, ⊎_elim, inl, inr, ◌∙◌, ℕ, List, [], Option, Some, None}
+use Rattle.std.proofs.Common.{◌≡◌, ◌⊎◌, ⊎_elim, inl, inr, ◌∙◌, ℕ, List, [], Option, Some, None}
 use Rattle.std.proofs.Common.{Result, Ok, Err, Bool, true, false, Global, ap, append-nil, refl, subst, sym}
 use Rattle.std.specs.Prelude.{IfSome, IsFalse, IsSome, MatchBool, MatchOption, option_map, string_bytes}
 use Rattle.std.specs.Io.KnownBytes.{Appends}
@@ -8,7 +8,7 @@ use Rattle.std.specs.declared.vec.IntoIter.{IntoIter}
 use Rattle.clap.specs.Words.{IsAmong, fault_of, kind_of, matches_of}
 use Rattle.clap.specs.declared.error.kind.ErrorKind.{ErrorKind}
 use Rattle.d_parser.specs.declared.fault.ParseFault.TheVariants as parse
-use Rattle.replay_core.specs.Layouts.{LayoutMeant, ShowsEach}
+use Rattle.replay_core.specs.Layouts.{LayoutMeant, IsDeterministic}
 use Rattle.streams.specs.Stream.{IsSent, SinkSeen}
 use Rattle.consumer.specs.declared.words.UsageFault.TheVariants.{Help, Usage}
 use Rattle.consumer.specs.declared.words.UsageFault.TheVariants as usage
@@ -16,7 +16,7 @@ use Rattle.consumer.specs.Answer.{without_line}
 use Rattle.consumer.specs.Bundle.{Divides}
 use Rattle.consumer.specs.Consuming.{HoldsOfInput, WritesBundle, WritesOut, WritesOver}
 use Rattle.consumer.specs.Plans.{IsMisgrouped}
-use Rattle.consumer.specs.Program.{Ends, EndsWithoutRun, IsBroken, IsNoRequest, IsRequest, IsRunOf}
+use Rattle.consumer.specs.Program.{Ends, EndsWithoutRun, IsBroken, IsRequest, IsRunOf}
 use Rattle.consumer.specs.Program.{StreamsSeen, WriteAlike, words_of, ran, without_run}
 use Rattle.consumer.specs.Refusals.{IsReported, status_at_end, status_of}
 use Rattle.consumer.specs.Replaying.{IsOfPlan, IsReplay}
@@ -97,7 +97,7 @@ module _ (shows : LayoutMeant) (script trace : List ℕ) (plan : Plan) (n : ℕ)
       by_refusal e is out.0 (ends ∙ ap status_at_end out.1) (subst (λ r. IsReported r old.errors new.errors) out.1 line)
 
 -- what two runs over one script and trace came to
-module _ (shows : LayoutMeant) (each : ShowsEach shows) (script trace : List ℕ) (old new old' new' : StreamsSeen) (status status' : ℕ) where
+module _ (shows : LayoutMeant) (each : IsDeterministic shows) (script trace : List ℕ) (old new old' new' : StreamsSeen) (status status' : ℕ) where
   came_alike : Came shows script trace old new status → Came shows script trace old' new' status'
       → IsBroken old new status ⊎ IsBroken old' new' status'
       ⊎ ((status ≡ status') × WriteAlike old.output new.output old'.output new'.output)
@@ -209,7 +209,7 @@ module _ (shows : LayoutMeant) (holds : List ℕ → Option (List ℕ)) (known :
   by_program all request asks (without_run fault unasked unread ends) =
       inl (spent (words_of all) request fault asks (⊎_elim (λ (is : fault ≡ usage.Memory). inr is) (λ (is : IsFaultOf (words_of all) fault). inl is) unasked) ends)
 
-pub programs_agree : (shows : LayoutMeant) {A Z E : Type 0} (given : Result (IntoIter (String A) Z) E) → ShowsEach shows
+pub programs_agree : (shows : LayoutMeant) {A Z E : Type 0} (given : Result (IntoIter (String A) Z) E) → IsDeterministic shows
     → (holds : List ℕ → Option (List ℕ)) (input : List ℕ) (request : Request) (old new old' new' : StreamsSeen) (status status' : ℕ)
     → IsRequest given request → ((name : List ℕ) → IsSome (holds name)) → old.input.remaining ≡ Some input → old'.input.remaining ≡ Some input
     → Ends shows given holds old new status → Ends shows given holds old' new' status'

@@ -1,5 +1,5 @@
 -- Why a script is refused, and why the trace of an accepted script is.
-use Rattle.std.proofs.Common.{◌≡◌, ◌⊎◌, ⊎_elim, inl, inr, List, ℕ, Err}
+use Rattle.std.proofs.Common.{◌≡◌, ◌⊎◌, inl, inr, List, ℕ, Err}
 use Rattle.firing_reader.specs.declared.fault.TraceFault.{TraceFault}
 use Rattle.firing_reader.specs.declared.fault.TraceFault.TheVariants as trace
 use Rattle.firing_reader.specs.Trace.{trace_of}
@@ -16,11 +16,11 @@ use Rattle.shard_queue.specs.declared.fault.GroupFault.TheVariants as group
 use Rattle.consumer.specs.declared.refusal.Refusal.{Refusal}
 use Rattle.consumer.specs.declared.refusal.Refusal.TheVariants.{Group, Lex, Memory, Parse, Trace}
 use Rattle.consumer.specs.declared.refusal.Refusal.TheVariants.{Typing}
-use Rattle.consumer.specs.Answer.{IsRefusal, Means}
+use Rattle.consumer.specs.Answer.{IsRefusal, Denote}
 use Rattle.consumer.specs.Plans.{IsMisgrouped}
 use Rattle.consumer.specs.Refusals.{plain_refusal}
-use Rattle.consumer.specs.Replaying.{IsOfPlan, IsRefusalUnder, IsReplay}
-use Rattle.consumer.specs.Judging.{IsJudged}
+use Rattle.consumer.specs.Replaying.{IsAnswered, IsOfPlan, IsRefusalUnder, IsReplay}
+use Rattle.consumer.specs.Steps.Judging.{IsJudged}
 use Rattle.consumer.specs.Scripts.{HasTree, IsAccepted, IsUnread}
 use Rattle.consumer.proofs.Answers.{no_run}
 
@@ -55,10 +55,17 @@ refusal_or_plan plan script bytes (Trace f) is = inl is
 refusal_or_plan plan script bytes (Group f) is = inr tt
 refusal_or_plan plan script bytes Memory is = inr tt
 
+answered : (shows : LayoutMeant) (script bytes : List ℕ) (plan : Plan) (e : Refusal) → IsRefusalUnder plan script bytes e → IsAnswered shows script bytes (Err e)
+answered shows script bytes plan (Lex f) is = no_run script bytes (Lex f) is
+answered shows script bytes plan (Parse f) is = no_run script bytes (Parse f) is
+answered shows script bytes plan (Typing f) is = no_run script bytes (Typing f) is
+answered shows script bytes plan (Trace f) is = no_run script bytes (Trace f) is
+answered shows script bytes plan (Group f) is = tt
+answered shows script bytes plan Memory is = tt
+
 pub refused : (shows : LayoutMeant) (script bytes : List ℕ) (plan : Plan) (e : Refusal) → IsRefusalUnder plan script bytes e → IsReplay shows script bytes plan (Err e)
 refused shows script bytes plan e is = record {
-  answer = λ other m firings means. ⊎_elim (λ (r : IsRefusal script bytes e). no_run script bytes e r m firings means) (λ (own : IsOfPlan e). other own)
-      (refusal_or_plan plan script bytes e is);
+  answer = answered shows script bytes plan e is;
   fault = is;
   carried = tt;
 }
@@ -92,7 +99,7 @@ trace_refused script bytes plan m accepted (trace.Reserved row) (inr h) = ((m, a
 trace_refused script bytes plan m accepted trace.TooMany (inl h) = absurd cc
 trace_refused script bytes plan m accepted trace.TooMany (inr h) = ((m, accepted), h)
 
-pub groups_refused : (script bytes : List ℕ) (plan : Plan) (m : ScriptMeant) (firings : List Firing) → Means script bytes m firings
+pub groups_refused : (script bytes : List ℕ) (plan : Plan) (m : ScriptMeant) (firings : List Firing) → Denote script bytes m firings
     → (e : GroupFault) → (e ≡ group.Memory) ⊎ IsMisgrouped plan.groups firings e → IsRefusalUnder plan script bytes (plain_refusal (Group e))
 groups_refused script bytes plan m firings means group.Memory h = tt
 groups_refused script bytes plan m firings means (group.Missing t) (inl h) = absurd cc

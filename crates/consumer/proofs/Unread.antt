@@ -4,7 +4,8 @@ use Rattle.std.proofs.Common.{Result, Err, ap, arith, inl, inr, refl, rules, sym
 use Rattle.std.specs.Result.{IsErrAnd}
 use Rattle.std.proofs.lemmas.Result.{err_from_is_err_and}
 use Rattle.replay_core.specs.Layouts.{LayoutMeant}
-use Rattle.streams.specs.Stream.{SinkSeen}
+use Rattle.streams.specs.Stream.{FeedSeen, SinkSeen}
+use Rattle.streams.specs.Turns.{IsReading}
 use Rattle.streams.specs.declared.reading.ReadFault.{ReadFault}
 use Rattle.streams.specs.declared.reading.ReadFault.TheVariants.{Failed}
 use Rattle.streams.specs.declared.reading.ReadFault.TheVariants as reading
@@ -13,10 +14,11 @@ use Rattle.consumer.specs.declared.consuming.ConsumeFault.TheVariants.{Read, Ref
 use Rattle.consumer.specs.declared.plan.Plan.{Plan}
 use Rattle.consumer.specs.declared.plan.Replayed.{Replayed}
 use Rattle.consumer.specs.declared.refusal.Refusal.TheVariants.{Memory}
-use Rattle.consumer.specs.Consuming.{HoldsOfInput, WritesAnswer, fault_of_reading}
+use Rattle.consumer.specs.Consuming.{HoldsOfInput, IsReadToEnd, WritesAnswer, fault_of_reading}
 use Rattle.consumer.specs.Program.{AreUnfailed, IsRunOf, StreamsSeen}
 use Rattle.consumer.specs.Vocabulary.{Request}
-use Rattle.std.specs.Prelude.{IsSome, MatchOption}
+use Rattle.std.specs.Prelude.{IsFalse, IsSome, MatchOption}
+use Rattle.std.proofs.KnownBytes.{Consumes-nil}
 use Rattle.std.specs.declared.string.String.{String}
 use Rattle.consumer.proofs.Refusing.{out_of_memory}
 
@@ -24,6 +26,21 @@ use Rattle.consumer.proofs.Refusing.{out_of_memory}
 pub holds_of_any : (remaining : Option (List ℕ)) (Holds : List ℕ → Type 0) → ((bytes : List ℕ) → Holds bytes) → HoldsOfInput remaining Holds
 holds_of_any None Holds any = record { input = []; read = search rules; holds = any [] }
 holds_of_any (Some bytes) Holds any = record { input = bytes; read = refl; holds = any bytes }
+
+-- memory was refused before the first call
+pub none_read : {A : Type 0} (feed : FeedSeen) → IsFalse feed.has_failed → IsReading {A = A} feed feed (Err reading.Memory)
+none_read feed works = record { ended = tt; failed = λ e. cc; memory = λ e. works; rest = ([], Consumes-nil _); few = omega arith }
+
+-- the feed is blamed where it failed
+pub read_fails : {A : Type 0} (old new : FeedSeen) (result : Result Replayed ConsumeFault) (fault : ReadFault) → IsErrAnd result (λ e. e ≡ fault_of_reading fault) → IsReading {A = A} old new (Err fault)
+    → IsReadToEnd old new result
+read_fails old new result Failed told r =
+    let p = err_from_is_err_and result told in
+    record { blamed = λ read. r.failed refl; whole = λ other. absurd (other (p.1 ∙ ap Err p.2)); few = r.few }
+read_fails old new result reading.Memory told r =
+    let p = err_from_is_err_and result told in
+    let spent : result ≡ Err (Refused Memory) = p.1 ∙ ap Err p.2 in
+    record { blamed = λ read. let never : Err (Refused Memory) ≡ Err Read = sym spent ∙ read in absurd cc; whole = λ other. (r.memory refl, inl spent); few = r.few }
 
 -- where memory ran out in reading, that is replay's answer too, and nothing goes out
 pub none_shown : {shows : LayoutMeant} (script trace : List ℕ) (plan : Plan) (seen : SinkSeen) (result : Result Replayed ConsumeFault) (fault : ReadFault) → IsErrAnd result (λ e. e ≡ fault_of_reading fault) → result ≢ Err Read → WritesAnswer shows script trace plan seen seen result

@@ -1,10 +1,8 @@
 pub mod Vocabulary
 pub mod Answer
-pub mod Blocks
 pub mod Bounds
 pub mod Bundle
 pub mod Consuming
-pub mod Judging
 pub mod Lines
 pub mod Plans
 pub mod Program

@@ -1,6 +1,6 @@
 -- Plans, and which thread is in which group of a plan.
-use Rattle.std.specs.Prelude.{◌≡◌, List}
-use Rattle.shard_queue.specs.{Groupings.IsDealt, Threads.items_of}
+use Rattle.std.specs.Prelude.{◌≡◌, List, map}
+use Rattle.shard_queue.specs.{Groupings.IsDealt}
 use Rattle.shard_queue.specs.Faults.{IsListed, IsListFault}
 use Rattle.consumer.specs.Vocabulary.{Firing, Grouping, GroupFault, GroupPlan, Dealt, Lists, Plan}
 use Rattle.consumer.specs.Vocabulary.{Dif}
@@ -14,9 +14,9 @@ pub record IsDefault (plan : Plan) : Type 0 where
 -- these are the plan's groups of a trace
 abbrev pub IsGroupedBy : GroupPlan → List Firing → Grouping → Type 0
 IsGroupedBy (Dealt n) trace grouping = IsDealt n trace grouping
-IsGroupedBy (Lists lists) trace grouping = IsListed (items_of lists.items) trace grouping
+IsGroupedBy (Lists lists) trace grouping = IsListed (map (λ v. v.items) lists.items) trace grouping
 
 -- the plan's lists are no groups of the trace, first for this reason
 abbrev pub IsMisgrouped : GroupPlan → List Firing → GroupFault → Type 0
 IsMisgrouped (Dealt n) trace fault = ⊥
-IsMisgrouped (Lists lists) trace fault = IsListFault (items_of lists.items) trace fault
+IsMisgrouped (Lists lists) trace fault = IsListFault (map (λ v. v.items) lists.items) trace fault

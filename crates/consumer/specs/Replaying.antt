@@ -4,13 +4,22 @@ use Rattle.replay_core.specs.{Exit.firings_over, Layouts.LayoutMeant}
 use Rattle.replay_core.specs.Groups.{IsAllBelow, SameItems, numbers_by_group}
 use Rattle.consumer.specs.Vocabulary.{flat_map, number_of, Firing, ScriptMeant, Grouping, Plan}
 use Rattle.consumer.specs.Vocabulary.{Replayed, Refusal, Group, Memory}
-use Rattle.consumer.specs.Answer.{HasAnswer, IsRefusal, Means, Shown}
+use Rattle.consumer.specs.Answer.{HasAnswer, IsRefusal, Denote, Output}
 use Rattle.consumer.specs.Plans.{IsGroupedBy, IsMisgrouped}
 
 -- ---- what it answers
 
-abbrev pub output_of : Replayed → Shown
+abbrev pub output_of : Replayed → Output
 output_of r = record { bytes = r.bytes.items; status = r.status }
+
+-- What is returned has the answer's bytes and status. If it is a refusal there is no answer, unless
+-- the plan or memory has a part in it.
+abbrev pub IsAnswered : LayoutMeant → (script trace : List ℕ) → Result Replayed Refusal → Type 0
+IsAnswered shows script trace (Ok r) = HasAnswer shows script trace (output_of r)
+IsAnswered shows script trace (Err (Group fault)) = Unit {0}
+IsAnswered shows script trace (Err Memory) = Unit {0}
+IsAnswered shows script trace (Err e) =
+    (m : ScriptMeant) (firings : List Firing) → ¬ Denote script trace m firings
 
 -- a refusal in which the plan or memory has a part
 abbrev pub IsOfPlan : Refusal → Type 0
@@ -18,19 +27,12 @@ IsOfPlan (Group fault) = Unit {0}
 IsOfPlan Memory = Unit {0}
 IsOfPlan e = ⊥
 
--- What is returned has the answer's bytes and status. If it is a refusal there is no answer, unless
--- the plan or memory has a part in it.
-abbrev pub IsAnswered : LayoutMeant → (script trace : List ℕ) → Result Replayed Refusal → Type 0
-IsAnswered shows script trace (Ok r) = HasAnswer shows script trace (output_of r)
-IsAnswered shows script trace (Err e) =
-    ¬ IsOfPlan e → (m : ScriptMeant) (firings : List Firing) → ¬ Means script trace m firings
-
 -- ---- why there is no answer
 
 -- the first reason for which a plan gives no answer, its own last; or memory ran out
 abbrev pub IsRefusalUnder : Plan → (script trace : List ℕ) → Refusal → Type 0
 IsRefusalUnder plan script trace (Group fault) =
-    (m : ScriptMeant) × (firings : List Firing) × Means script trace m firings
+    (m : ScriptMeant) × (firings : List Firing) × Denote script trace m firings
     × IsMisgrouped plan.groups firings fault
 IsRefusalUnder plan script trace Memory = Unit {0}
 IsRefusalUnder plan script trace e = IsRefusal script trace e
@@ -55,7 +57,7 @@ pub record IsCarriedOut (plan : Plan) (trace firings : List Firing) (r : Replaye
 -- how the run of what the script means over the trace was carried out
 abbrev pub IsRunUnder : Plan → (script trace : List ℕ) → Replayed → Type 0
 IsRunUnder plan script trace r =
-    (m : ScriptMeant) × (firings : List Firing) × Means script trace m firings
+    (m : ScriptMeant) × (firings : List Firing) × Denote script trace m firings
     × IsCarriedOut plan firings (firings_over m firings) r
 
 -- ---- all of it

@@ -17,7 +17,7 @@ pub record HasTree (script : List ℕ) (items : List ItemTree) : Type 0 where
   pub has : HasTokens script tokens
   pub spelled : IsScript items tokens
 
--- the first of these that holds
+-- why the tokens have no tree: a limit is passed, or else they spell none
 abbrev pub IsParseFault : List ℕ → ParseFault → Type 0
 IsParseFault script ParseFault.TooDeep =
     (tokens : List Token) × IsLexed script tokens × IsDeep tokens

@@ -1,7 +1,8 @@
 -- What private functions alone say of their steps. No contract for callers rests on these
 -- definitions.
 pub mod Replaying
-pub mod Program
 pub mod Files
 pub mod Words
 pub mod Beginnings
+pub mod Blocks
+pub mod Judging

@@ -32,22 +32,16 @@ pub fn divide(bundle: &[u8]) -> Division<'_>
             script: &bundle[..passed],
             trace,
         },
-        None => divide_last(bundle, passed),
-    }
-}
-
-// Divides a bundle whose whole lines, the first `passed` bytes, have no dividing line.
-fn divide_last(bundle: &[u8], passed: usize) -> Division<'_>
-    requires { IsUndivided bundle.now passed }
-    ensures { Divides bundle.now result.script.now result.trace.now }
-{
-    let (script, last) = bundle.split_at(passed);
-    if is_divider(last) {
-        Division { script, trace: &[] }
-    } else {
-        Division {
-            script: bundle,
-            trace: &[],
+        None => {
+            let (script, last) = bundle.split_at(passed);
+            if is_divider(last) {
+                Division { script, trace: &[] }
+            } else {
+                Division {
+                    script: bundle,
+                    trace: &[],
+                }
+            }
         }
     }
 }

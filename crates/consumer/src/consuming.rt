@@ -1,14 +1,14 @@
 //! From the bytes in to the bytes out.
 
-ghost use Rattle.std.specs.Prelude.{◌≡◌, ◌≢◌, [], List, ℕ, Err, IfErr, IsFalse, Ok, OnOk};
-ghost use Rattle.consumer.specs.Consuming.{IsReadToEnd, WritesAnswer, WritesBundle, WritesOut};
-ghost use Rattle.consumer.specs.Consuming.{WritesOver, fault_of_reading};
-ghost use Rattle.consumer.specs.{Judging.IsJudged, Replaying.IsReplay};
+ghost use Rattle.std.specs.Prelude.{◌≡◌, ◌≢◌, [], List, ℕ, Err, IfErr, IsFalse, OnOk};
+ghost use Rattle.consumer.specs.Consuming.{IsReadToEnd, WritesBundle, WritesOut, WritesOver};
+ghost use Rattle.consumer.specs.Consuming.{fault_of_reading};
+ghost use Rattle.consumer.specs.{Replaying.IsReplay, Steps.Judging.IsJudged};
 ghost use Rattle.consumer.specs.Vocabulary.{Memory, Refused, reads, trace_of};
 
 use crate::consumer::Consumer;
-use crate::intake::{BundleIntake, TraceIntake};
-use crate::plan::{Plan, ReadingPlan, Replayed};
+use crate::intake::{Input, Intake};
+use crate::plan::{Plan, Replayed};
 use crate::refusal::Refusal;
 use replay_core::{Layout, OpenGate};
 use std::alloc::AllocError;
@@ -77,18 +77,8 @@ impl<'a, R: Threads + Wait + Sync, L: Layout> Consumer<'a, R, L> {
         ensures untouched { result ≢ Err ConsumeFault.Write
             → IfErr result (λ e. sink.new ≡ sink.old) }
     {
-        let reading = self.reading(plan);
-        let mut bundle = BundleIntake::new(self.rt, self.alloc, &reading);
-        match bundle.read_from(self.alloc, feed) {
-            Ok(()) => {
-                let taken = bundle.finish()?;
-                self.show(taken, sink, plan)
-            }
-            Err(fault) => {
-                drop(bundle);
-                Err(ConsumeFault::from(fault))
-            }
-        }
+        let input = self.intake(plan).read_from(feed, None)?;
+        write_out(self.answer(input, plan), sink)
     }
 
     /// Reads a trace to its end, runs the script over it, writes what the script shows and flushes
@@ -116,60 +106,29 @@ impl<'a, R: Threads + Wait + Sync, L: Layout> Consumer<'a, R, L> {
         ensures untouched { result ≢ Err ConsumeFault.Write
             → IfErr result (λ e. sink.new ≡ sink.old) }
     {
-        let reading = self.reading(plan);
-        let mut taken = TraceIntake::new(self.rt, self.alloc, &reading, script)?;
-        match taken.read_from(self.alloc, feed) {
-            Ok(()) => self.show(taken, sink, plan),
-            Err(fault) => {
-                drop(taken);
-                Err(ConsumeFault::from(fault))
-            }
-        }
+        let intake = self.intake(plan);
+        let begun = intake.begun(script, &[])?;
+        let input = intake.read_from(feed, Some(begun))?;
+        write_out(self.answer(input, plan), sink)
     }
 
-    // How the trace of a run is read.
-    fn reading(&self, plan: &Plan) -> ReadingPlan {
-        ReadingPlan {
+    // How the input of a run is taken.
+    fn intake(&self, plan: &Plan) -> Intake<'_, R> {
+        Intake {
+            rt: self.rt,
+            alloc: self.alloc,
             workers: plan.workers,
             hash_key: self.hash_key,
         }
     }
 
-    // Runs a script over the trace that was taken for it, and writes what the script shows.
-    fn show<S: Sink>(
-        &self,
-        taken: TraceIntake<'_, R>,
-        sink: &mut S,
-        plan: &Plan,
-    ) -> Result<Replayed, ConsumeFault>
-        requires { IsFalse (S.seen sink.old).has_failed }
-        ensures read { result ≢ Err ConsumeFault.Read }
-        ensures shown { (script trace : List ℕ) → IsJudged script taken.entry.script
-            → OnOk taken.entry.script (reads taken.entry.trace [] ≡ trace_of trace)
-            → WritesAnswer L.shows script trace plan.now (S.seen sink.old) (S.seen sink.new)
-            result }
-        ensures untouched { result ≢ Err ConsumeFault.Write
-            → IfErr result (λ e. sink.new ≡ sink.old) }
-    {
-        match self.answer(taken, plan) {
-            Ok(replayed) => write_out(replayed, sink),
-            Err(refusal) => Err(ConsumeFault::Refused(refusal)),
-        }
-    }
-
-    // The answer of a script over the trace that was taken for it.
-    fn answer(&self, taken: TraceIntake<'_, R>, plan: &Plan) -> Result<Replayed, Refusal>
-        ensures { (script trace : List ℕ) → IsJudged script taken.entry.script
-            → OnOk taken.entry.script (reads taken.entry.trace [] ≡ trace_of trace)
+    // The answer of a script over its trace.
+    fn answer(&self, input: Input, plan: &Plan) -> Result<Replayed, Refusal>
+        ensures { (script trace : List ℕ) → IsJudged script input.script
+            → OnOk input.script (reads input.trace [] ≡ trace_of trace)
             → IsReplay L.shows script trace plan.now result }
     {
-        let TraceIntake {
-            script,
-            trace,
-            block,
-            ..
-        } = taken;
-        drop(block);
+        let Input { script, trace } = input;
         match script {
             Ok(script) => {
                 let read = trace.finish(self.rt);
@@ -185,12 +144,20 @@ impl<'a, R: Threads + Wait + Sync, L: Layout> Consumer<'a, R, L> {
     }
 }
 
-// Writes an answer, and returns it.
-fn write_out<S: Sink>(replayed: Replayed, sink: &mut S) -> Result<Replayed, ConsumeFault>
+// Writes an answer, if there is one, and returns it.
+fn write_out<S: Sink>(
+    answer: Result<Replayed, Refusal>,
+    sink: &mut S,
+) -> Result<Replayed, ConsumeFault>
     requires { IsFalse (S.seen sink.old).has_failed }
-    ensures out { WritesOut (Ok replayed) (S.seen sink.old) (S.seen sink.new) result }
-    ensures fault { IfErr result (λ e. e ≡ ConsumeFault.Write) }
+    ensures out { WritesOut answer (S.seen sink.old) (S.seen sink.new) result }
+    ensures read { result ≢ Err ConsumeFault.Read }
+    ensures untouched { result ≢ Err ConsumeFault.Write → IfErr result (λ e. sink.new ≡ sink.old) }
 {
+    let replayed = match answer {
+        Ok(replayed) => replayed,
+        Err(refusal) => return Err(ConsumeFault::Refused(refusal)),
+    };
     match send(sink, &replayed.bytes) {
         Ok(()) => Ok(replayed),
         Err(_) => Err(ConsumeFault::Write),

@@ -5,11 +5,11 @@ ghost use Rattle.std.specs.Prelude.{◌≡◌, ◌∷◌, ◌⊎◌, [], ℕ, Li
 ghost use Rattle.std.specs.Prelude.{IsSome, Some};
 ghost use Rattle.clap.specs.Words.{fault_of, matches_of};
 ghost use Rattle.firings.specs.Ends.{with_ends};
-ghost use Rattle.replay_core.specs.{Groups.AreGrouped, Layouts.ShowsEach};
+ghost use Rattle.replay_core.specs.{Groups.AreGrouped, Layouts.IsDeterministic};
 ghost use Rattle.consumer.specs.{Bundle.Divides, Refusals.plain_refusal};
 ghost use Rattle.consumer.specs.Vocabulary.{DisplayHelp, ErrorKind, Firing, Grouping, Plan};
 ghost use Rattle.consumer.specs.Vocabulary.{Group, GroupFault, Memory, Refusal, Replayed, Request};
-ghost use Rattle.consumer.specs.Answer.{IsAnswer, IsSameAnswer, Shown, without_line};
+ghost use Rattle.consumer.specs.Answer.{IsAnswer, IsSameAnswer, Output, without_line};
 ghost use Rattle.consumer.specs.Program.{Ends, IsBroken, IsRequest, StreamsSeen, WriteAlike};
 ghost use Rattle.consumer.specs.Plans.{IsDefault, IsGroupedBy, IsMisgrouped};
 ghost use Rattle.consumer.specs.Replaying.{IsOfPlan, IsReplay, output_of, ran_in};
@@ -34,16 +34,16 @@ pub fn has_division()
 /// If a layout shows each run by one text, a script and a trace have one answer at most: bytes
 /// and a status, or a refusal. The line of a refusal belongs to the answer if there is a tree.
 pub fn one_answer<L: Layout>()
-    ensures { ShowsEach L.shows
-        → (script trace : List ℕ) (a b : Result Shown Refusal)
+    ensures { IsDeterministic L.shows
+        → (script trace : List ℕ) (a b : Result Output Refusal)
         → IsAnswer L.shows script trace a → IsAnswer L.shows script trace b → IsSameAnswer a b }
 {}
 
 /// If a layout shows each run, each script and trace have an answer.
 pub fn has_answer<L: Layout>()
-    ensures { ShowsEach L.shows
+    ensures { IsDeterministic L.shows
         → (script trace : List ℕ)
-        → (a : Result Shown Refusal) × IsAnswer L.shows script trace a }
+        → (a : Result Output Refusal) × IsAnswer L.shows script trace a }
 {}
 
 /// What is replayed is the answer, and so is the first refusal, if the plan and memory have no
@@ -72,15 +72,15 @@ pub fn plans_have_groups()
 /// Two replays of a script and a trace give the same, under whatever plans: the same bytes and
 /// status, or the same refusal, unless the plan or memory has a part in one.
 pub fn replays_agree<L: Layout>()
-    ensures shown { ShowsEach L.shows
+    ensures shown { IsDeterministic L.shows
         → (script trace : List ℕ) (p q : Plan) (a b : Replayed)
         → IsReplay L.shows script trace p (Ok a) → IsReplay L.shows script trace q (Ok b)
         → (a.bytes.items ≡ b.bytes.items) × (a.status ≡ b.status) }
-    ensures refused { ShowsEach L.shows
+    ensures refused { IsDeterministic L.shows
         → (script trace : List ℕ) (p q : Plan) (e f : Refusal)
         → IsReplay L.shows script trace p (Err e) → IsReplay L.shows script trace q (Err f)
         → (without_line e ≡ without_line f) ⊎ IsOfPlan e ⊎ IsOfPlan f }
-    ensures apart { ShowsEach L.shows
+    ensures apart { IsDeterministic L.shows
         → (script trace : List ℕ) (p q : Plan) (a : Replayed) (e : Refusal)
         → IsReplay L.shows script trace p (Ok a) → IsReplay L.shows script trace q (Err e)
         → IsOfPlan e }
@@ -92,7 +92,7 @@ pub fn one_plan_runs_alike<L: Layout>()
     ensures ran { (script trace : List ℕ) (plan : Plan) (a b : Replayed)
         → IsReplay L.shows script trace plan (Ok a) → IsReplay L.shows script trace plan (Ok b)
         → ran_in a ≡ ran_in b }
-    ensures refused { ShowsEach L.shows
+    ensures refused { IsDeterministic L.shows
         → (script trace : List ℕ) (plan : Plan) (a : Replayed) (e : Refusal)
         → IsReplay L.shows script trace plan (Ok a) → IsReplay L.shows script trace plan (Err e)
         → e ≡ Memory }
@@ -104,7 +104,7 @@ pub fn one_plan_runs_alike<L: Layout>()
 /// Two runs of a program whose words ask for a run, over the same known input and files, end with
 /// the same status and write the same bytes, unless memory ran out, or a stream failed, in one.
 pub fn programs_agree<L: Layout>(given: &io::Result<Args>)
-    ensures { ShowsEach L.shows
+    ensures { IsDeterministic L.shows
         → (holds : List ℕ → Option (List ℕ)) (input : List ℕ) (request : Request)
         (old new old' new' : StreamsSeen) (status status' : ℕ) → IsRequest given.now request
         → ((name : List ℕ) → IsSome (holds name)) → old.input.remaining ≡ Some input

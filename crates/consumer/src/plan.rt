@@ -4,8 +4,6 @@ ghost use Rattle.std.specs.Prelude.{◌≤◌};
 ghost use Rattle.shard_queue.specs.declared.limits.TheConstants.{MAX_GROUPS, MAX_WORKERS};
 ghost use Rattle.consumer.specs.Bounds.{dealt};
 
-use keyed_hash::HashKey;
-
 /// How a run is carried out. The answer is the same under every plan.
 ///
 /// ```text
@@ -23,15 +21,6 @@ pub struct Plan {
     pub ghost few_workers: { workers ≤ MAX_WORKERS },
     pub ghost some_groups: { 1 ≤ dealt groups },
     pub ghost few_groups: { dealt groups ≤ MAX_GROUPS },
-}
-
-/// How a trace is read as it comes.
-#[derive(Clone, Copy, Drop)]
-pub(crate) struct ReadingPlan {
-    /// How many workers there are.
-    pub(crate) workers: u32,
-    /// The hash key of the trace's maps.
-    pub(crate) hash_key: HashKey,
 }
 
 /// How the threads of a trace are grouped.

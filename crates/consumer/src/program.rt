@@ -3,7 +3,6 @@
 ghost use Rattle.std.specs.Prelude.{◌≡◌, IsFalse, MatchResult};
 ghost use Rattle.consumer.specs.Program.{AreUnfailed, Ends, EndsWithoutRun, IsNoRequest, IsRequest};
 ghost use Rattle.consumer.specs.Program.{IsRunOf, streams_seen};
-ghost use Rattle.consumer.specs.Steps.Program.{EndsWithRun};
 ghost use Rattle.streams.specs.Watched.{watched_calls, watched_has_failed, watched_inner};
 
 use crate::consumer::Consumer;
@@ -72,7 +71,9 @@ impl<'a, R: Threads + Wait + Sync, L: Layout> Consumer<'a, R, L> {
     {
         match request(self.alloc, help, given) {
             Ok(request) => {
-                let status = self.run_status(files, &request, streams);
+                let answer = self.run_request(files, &request, streams);
+                let status = end(&mut streams.errors, &answer);
+                drop(answer);
                 drop(request);
                 status
             }
@@ -82,24 +83,6 @@ impl<'a, R: Threads + Wait + Sync, L: Layout> Consumer<'a, R, L> {
                 status
             }
         }
-    }
-
-    // Runs what was asked for, says why if there is no answer, and returns the status.
-    fn run_status<C: ScriptFiles, F: Feed + Send, S: Sink, E: Sink>(
-        &self,
-        files: &C,
-        request: &Request,
-        streams: &mut Streams<F, S, E>,
-    ) -> u8
-        requires { AreUnfailed (streams_seen F.seen S.seen E.seen streams.old) }
-        ensures { EndsWithRun L.shows request.now (C.bytes files.now)
-            (streams_seen F.seen S.seen E.seen streams.old)
-            (streams_seen F.seen S.seen E.seen streams.new) result }
-    {
-        let answer = self.run_request(files, request, streams);
-        let status = end(&mut streams.errors, &answer);
-        drop(answer);
-        status
     }
 
     // Runs what was asked for, a bundle or a script of a file, from the input into the output.
@@ -155,51 +138,21 @@ fn explain<F: Feed, S: Sink, E: Sink>(
     ensures input { streams.new.input ≡ streams.old.input }
 {
     match fault {
-        UsageFault::Help(help) => show_help(alloc, help, streams),
-        UsageFault::Usage(mistake) => show_mistake(alloc, mistake, streams),
-        UsageFault::Memory => fail(&mut streams.errors, OUT_OF_MEMORY),
-    }
-}
-
-// Shows the help that was asked for, and returns the status.
-fn show_help<F: Feed, S: Sink, E: Sink>(
-    alloc: Global,
-    help: &clap::Error,
-    streams: &mut Streams<F, S, E>,
-) -> u8
-    requires { AreUnfailed (streams_seen F.seen S.seen E.seen streams.old) }
-    ensures ends { EndsWithoutRun (UsageFault.Help help.now)
-        (streams_seen F.seen S.seen E.seen streams.old)
-        (streams_seen F.seen S.seen E.seen streams.new) result }
-    ensures input { streams.new.input ≡ streams.old.input }
-{
-    match format!(in alloc; "{help}") {
-        Ok(text) => match send(&mut streams.output, text.as_str().as_bytes()) {
-            Ok(()) => 0,
-            Err(_) => fail(&mut streams.errors, ConsumeFault::Write),
+        UsageFault::Help(help) => match format!(in alloc; "{help}") {
+            Ok(text) => match send(&mut streams.output, text.as_str().as_bytes()) {
+                Ok(()) => 0,
+                Err(_) => fail(&mut streams.errors, ConsumeFault::Write),
+            },
+            Err(_) => fail(&mut streams.errors, OUT_OF_MEMORY),
         },
-        Err(_) => fail(&mut streams.errors, OUT_OF_MEMORY),
-    }
-}
-
-// Says what is wrong with the words, and returns the status.
-fn show_mistake<F: Feed, S: Sink, E: Sink>(
-    alloc: Global,
-    mistake: &clap::Error,
-    streams: &mut Streams<F, S, E>,
-) -> u8
-    requires { AreUnfailed (streams_seen F.seen S.seen E.seen streams.old) }
-    ensures ends { EndsWithoutRun (UsageFault.Usage mistake.now)
-        (streams_seen F.seen S.seen E.seen streams.old)
-        (streams_seen F.seen S.seen E.seen streams.new) result }
-    ensures input { streams.new.input ≡ streams.old.input }
-{
-    match format!(in alloc; "{mistake}") {
-        Ok(text) => {
-            let _ = send(&mut streams.errors, text.as_str().as_bytes());
-            2
-        }
-        Err(_) => fail(&mut streams.errors, OUT_OF_MEMORY),
+        UsageFault::Usage(mistake) => match format!(in alloc; "{mistake}") {
+            Ok(text) => {
+                let _ = send(&mut streams.errors, text.as_str().as_bytes());
+                2
+            }
+            Err(_) => fail(&mut streams.errors, OUT_OF_MEMORY),
+        },
+        UsageFault::Memory => fail(&mut streams.errors, OUT_OF_MEMORY),
     }
 }
 

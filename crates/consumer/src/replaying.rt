@@ -3,8 +3,8 @@
 ghost use Rattle.std.specs.Prelude.{◌≡◌, ℕ, IfErr, IfOk, List, option_map, unwrap_or};
 ghost use Rattle.firing_reader.specs.{Gives.Gives};
 ghost use Rattle.shard_queue.specs.{Groups.AreOf, Groups.grouping, Threads.run_threads};
-ghost use Rattle.replay_core.specs.Exit.{firings_over};
-ghost use Rattle.consumer.specs.{Answer.IsShown, Scripts.IsAccepted};
+ghost use Rattle.replay_core.specs.{Exit.firings_over, Working.IsReady};
+ghost use Rattle.consumer.specs.{Answer.HasOutput, Scripts.IsAccepted};
 ghost use Rattle.consumer.specs.Vocabulary.{Firing, Grouping, Plan, ScriptMeant, functions_in};
 ghost use Rattle.consumer.specs.Vocabulary.{functions_of, trace_of, typed_script_of};
 ghost use Rattle.consumer.specs.{Plans.IsGroupedBy};
@@ -51,7 +51,8 @@ impl<'a, R: Threads + Wait + Sync, L: Layout> Consumer<'a, R, L> {
     }
 
     /// Does the same, and calls a gate with each group that a worker takes, before the group's
-    /// first firing. The answer doesn't depend on the gate.
+    /// first firing. That it does so is tested, and no contract says it: the answer doesn't depend
+    /// on the gate.
     ///
     /// ```text
     /// consumer.replay_with(script, trace, &plan, &OpenGate); // as `replay` does
@@ -120,7 +121,7 @@ impl<'a, R: Threads + Wait + Sync, L: Layout> Consumer<'a, R, L> {
         requires { AreOf groups.now (run_threads trace.now) }
         ensures { let m = typed_script_of script.now in
             IsGroupedBy plan.now.groups trace.now (grouping groups.now)
-            → IfOk result (λ r. IsShown L.shows m trace.now (output_of r)
+            → IfOk result (λ r. HasOutput L.shows m trace.now (output_of r)
             × IsCarriedOut plan.now trace.now (firings_over m trace.now) r) }
     {
         let ran = self.run(script, trace, groups, plan, gate)?;
@@ -164,8 +165,7 @@ impl<'a, R: Threads + Wait + Sync, L: Layout> Consumer<'a, R, L> {
         plan: &Plan,
         gate: &G,
     ) -> Result<Ran, AllocError>
-        requires groups { AreOf groups.now (run_threads trace.now) }
-        requires script { (m : ScriptMeant) × K.runs lanes.now m }
+        requires { IsReady (K.runs lanes.now) groups.now trace.now }
         ensures { (m : ScriptMeant) → K.runs lanes.now m
             → IfOk result (IsRunBy m trace.now
             (grouping groups.now) plan.now.workers) }
@@ -180,7 +180,7 @@ impl<'a, R: Threads + Wait + Sync, L: Layout> Consumer<'a, R, L> {
         ensures { let m = typed_script_of script.now in
             (plan : Plan) (trace : List Firing) (grouping : Grouping)
             → IsGroupedBy plan.groups trace grouping → IsRunBy m trace grouping plan.workers ran
-            → IfOk result (λ r. IsShown L.shows m trace (output_of r)
+            → IfOk result (λ r. HasOutput L.shows m trace (output_of r)
             × IsCarriedOut plan trace (firings_over m trace) r) }
     {
         match self.layout.render(self.rt, self.alloc, script, &ran.0) {

@@ -2,7 +2,7 @@
 
 ghost use Rattle.std.specs.Prelude.{◌≡◌, ◌⊎◌, IfOk, MatchResult};
 ghost use Rattle.d_parser.specs.{Numbers.AreSmall, Sizes.IsWithin, Tree.script_of};
-ghost use Rattle.consumer.specs.{Judging.IsJudged, Scripts.HasTree, Scripts.IsUnread};
+ghost use Rattle.consumer.specs.{Scripts.HasTree, Scripts.IsUnread, Steps.Judging.IsJudged};
 
 use crate::refusal::Refusal;
 use d_lexer::{MAX_BYTES, lex};

@@ -53,7 +53,7 @@ fn has_run(replayed: &Replayed, ran: &[&[u64]]) -> bool {
 }
 
 // Whether an answer is the sums, by two workers, and these firings ran in its groups.
-fn is_shown(answer: &Result<Replayed, Refusal>, ran: &[&[u64]]) -> bool {
+pub(crate) fn is_shown(answer: &Result<Replayed, Refusal>, ran: &[&[u64]]) -> bool {
     match answer {
         Ok(replayed) => {
             replayed.bytes.as_slice() == SHOWN

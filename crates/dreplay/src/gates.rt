@@ -1,6 +1,6 @@
 //! Tests that groups run at the same time: a gate holds one until another has begun.
 
-use crate::calls::{LATENCY, TWO_THREADS, plan_for_two};
+use crate::calls::{LATENCY, TWO_THREADS, is_shown, plan_for_two};
 use crate::{EngineKind, replay_with};
 use replay_core::Gate;
 use std::alloc::AllocGlobal;
@@ -56,7 +56,7 @@ impl Gate for Holding {
 fn expect_held(rt: &(impl Abort + AllocGlobal + Threads + Wait + Sync), gate: &Holding) {
     let plan = plan_for_two(EngineKind::Dif);
     let answer = replay_with(rt, rt.alloc(), LATENCY, TWO_THREADS, &plan, gate);
-    assert!(rt; answer.is_ok());
+    assert!(rt; is_shown(&answer, &[&[1, 3], &[2, 4], &[0, 5]]));
     assert_eq!(rt; gate.gave_up.load(Ordering::SeqCst), 0);
     for group in 0..3 {
         assert_eq!(rt; gate.times_begun(group), 1);

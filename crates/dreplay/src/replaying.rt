@@ -37,7 +37,8 @@ pub fn replay<R: Threads + Wait + Sync>(
 }
 
 /// Does the same, and calls a gate with each group that a worker takes, before the group's first
-/// firing. The answer doesn't depend on the gate.
+/// firing. That it does so is tested, and no contract says it: the answer doesn't depend on the
+/// gate.
 ///
 /// ```text
 /// replay_with(&rt, alloc, script, &trace, &plan, &OpenGate)?; // as `replay` does

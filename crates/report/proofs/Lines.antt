@@ -1,6 +1,6 @@
 -- How the entries of a listing ascend, and how long their lines are.
 use Rattle.std.proofs.Common.{◌≡◌, inl, inr, ℕ, ◌+◌, ◌-◌, ◌<◌, ◌≤◌, List, [], ◌∷◌, ◌++◌, length}
-use Rattle.std.proofs.Common.{get_or, Some, refl, sym, ap, ◌∙◌, arith, length-append, suc}
+use Rattle.std.proofs.Common.{get_or, replicate, Some, refl, sym, ap, ◌∙◌, arith, length-append, suc}
 use Rattle.std.proofs.lemmas.List.{length-replicate}
 use Rattle.std.specs.Prelude.{All, ℤ, sum_by, ◌<ℤ◌}
 use Rattle.std.specs.Cmp.{int_ranks}
@@ -21,7 +21,7 @@ use Rattle.aggregations.specs.declared.function.AggFn.{AggFn}
 use Rattle.aggregations.specs.declared.held.Held.{Held}
 use Rattle.aggregations.specs.Figures.{figure_of}
 use Rattle.aggregations.specs.Figures.Figure.{Single}
-use Rattle.report.specs.Columns.{FitsColumn, column_width, spaces}
+use Rattle.report.specs.Columns.{FitsColumn, column_width}
 use Rattle.report.specs.Entry.{Entry, number_bytes, part_bytes, value_bytes, entry_bytes}
 use Rattle.report.specs.Listing.{ComesBefore, entry_cmp, IsListing, entry_rank}
 
@@ -42,19 +42,19 @@ ascend function agg contributions entries listing i j x y below at there =
     in_words x y (ap (λ e. entry_cmp e y) (sym first) ∙ ap (entry_cmp (get_or entries i x)) (sym second)
     ∙ Less-from_sorted entry_cmp entries i j x listing.rises below (slice_get_within entries j y there))
 
-blanks : (count : ℕ) → length (spaces count) ≡ count
-blanks count = length-replicate count 32
+blanks : (count : ℕ) → length (replicate {A = ℕ} count 32) ≡ count
+blanks count = length-replicate {A = ℕ} count 32
 
 number_width : (number : ℤ) → length (signed_decimal number) ≤ 16 → length (number_bytes number) ≡ 17
 number_width number fits =
     let blank = blanks (16 - length (signed_decimal number)) in
-    ap suc (length-append (spaces (16 - length (signed_decimal number))) (signed_decimal number) ∙ omega arith)
+    ap suc (length-append (replicate {A = ℕ} (16 - length (signed_decimal number)) 32) (signed_decimal number) ∙ omega arith)
 
 part_width : (part : KeyPart) → FitsColumn part → length (part_bytes part) ≡ column_width part
 part_width (Number number) fits = number_width number fits
 part_width (Name text) fits =
     let blank = blanks (50 - length text) in
-    ap (λ n. suc (suc n)) (length-append text (spaces (50 - length text)) ∙ omega arith)
+    ap (λ n. suc (suc n)) (length-append text (replicate {A = ℕ} (50 - length text) 32) ∙ omega arith)
 
 key_width : (key : List KeyPart) → All FitsColumn key → length (flat_map part_bytes key) ≡ sum_by column_width key
 key_width [] fit = refl
@@ -73,8 +73,8 @@ line_width key held number fit is fits =
     let whole = length-append (flat_map part_bytes key) (number_bytes number ++ 10 ∷ []) in
     ap (λ figure. length (flat_map part_bytes key ++ value_bytes figure)) is ∙ omega arith
 
-pub number_whole : (number : ℤ) → (blank : ℕ) × (0 < blank) × (number_bytes number ≡ spaces blank ++ signed_decimal number)
+pub number_whole : (number : ℤ) → (blank : ℕ) × (0 < blank) × (number_bytes number ≡ replicate {A = ℕ} blank 32 ++ signed_decimal number)
 number_whole number = (suc (16 - length (signed_decimal number)), omega arith, refl)
 
-pub name_whole : (text : List ℕ) → (blank : ℕ) × (part_bytes (Name text) ≡ spaces 2 ++ text ++ spaces blank)
+pub name_whole : (text : List ℕ) → (blank : ℕ) × (part_bytes (Name text) ≡ (32 ∷ 32 ∷ []) ++ text ++ replicate {A = ℕ} blank 32)
 name_whole text = (50 - length text, refl)

@@ -10,7 +10,7 @@ use Rattle.std.proofs.Math.Bool.{and-false}
 use Rattle.std.proofs.lemmas.List.FromFn.{map-range_with_len_more}
 use Rattle.std.proofs.lemmas.List.Sums.{sum_by-cons, get_or-le-sum_by, sum_by-take-le}
 use Rattle.aggregations.specs.Histograms.{Histogram, IsSpan}
-use Rattle.report.specs.Histograms.{is_shown, rows}
+use Rattle.report.specs.Histograms.{is_row, rows}
 
 -- ---- sums
 
@@ -78,13 +78,13 @@ module _ (counts : List ℕ) (first last : ℕ) (span : IsSpan counts first last
       let none = sum-zeros (drop (b - 1) counts) (λ k inside. get_or-drop (b - 1) counts k 0 ∙ span.after (b - 1 + k) (omega arith)) in
       le-ltb 0 (sum (drop (b - 1) counts)) (omega arith)
 
-  shown_between : (b : ℕ) → first ≤ b + 1 → b ≤ last + 1 → is_shown counts b ≡ true
+  shown_between : (b : ℕ) → first ≤ b + 1 → b ≤ last + 1 → is_row counts b ≡ true
   shown_between b low high = ap (λ t. t && ltb 0 (sum (drop (b - 1) counts))) (starts b low) ∙ ends b high
 
-  hidden_before : (b : ℕ) → b + 1 < first → is_shown counts b ≡ false
+  hidden_before : (b : ℕ) → b + 1 < first → is_row counts b ≡ false
   hidden_before b lt = ap (λ t. t && ltb 0 (sum (drop (b - 1) counts))) (not_yet b lt)
 
-  hidden_after : (b : ℕ) → last + 1 < b → is_shown counts b ≡ false
+  hidden_after : (b : ℕ) → last + 1 < b → is_row counts b ≡ false
   hidden_after b lt = ap (λ t. ltb 0 (sum (take (b + 2) counts)) && t) (no_more b lt) ∙ and-false (ltb 0 (sum (take (b + 2) counts)))
 
 -- ---- the rows
@@ -135,14 +135,14 @@ unfolding row_at
 rows_are h first last end span is =
     let up = ordered h.counts first last span in
     let inside = last_within h.counts first last span in
-    later_rows (is_shown h.counts) (λ b. get_or h.counts b 0) (first - 1) 0 (end - (first - 1)) h.counts (omega arith) (λ i lt. ap (λ k. get_or h.counts k 0) (let e : i ≡ 0 + i = omega arith in e))
+    later_rows (is_row h.counts) (λ b. get_or h.counts b 0) (first - 1) 0 (end - (first - 1)) h.counts (omega arith) (λ i lt. ap (λ k. get_or h.counts k 0) (let e : i ≡ 0 + i = omega arith in e))
     (λ b lt. hidden_before h.counts first last span b (omega arith))
     (λ b le lt. shown_between h.counts first last span b (omega arith) (omega arith))
     (λ b le lt. hidden_after h.counts first last span b (omega arith))
     ∙ ap (λ s. map (λ b. (b, get_or h.counts b 0)) (range_with_len s (end - (first - 1)))) (let e : 0 + (first - 1) ≡ first - 1 = omega arith in e)
 
 pub rows-none : (h : Histogram) → sum h.counts ≡ 0 → rows h ≡ []
-rows-none h none = no_rows (is_shown h.counts) 0 h.counts (λ b le lt.
+rows-none h none = no_rows (is_row h.counts) 0 h.counts (λ b le lt.
     let few = sum_by-take-le (λ n. n) h.counts (b + 2) in
     ap (λ t. t && ltb 0 (sum (drop (b - 1) h.counts))) (le-ltb 0 (sum (take (b + 2) h.counts)) (omega arith)))
 

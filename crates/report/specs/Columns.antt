@@ -3,17 +3,13 @@ use Rattle.std.specs.Prelude.{ℕ, ◌-◌, ◌≤◌, List, ◌++◌, length, r
 use Rattle.std.specs.Str.{byte}
 use Rattle.report.specs.Vocabulary.{KeyPart, Number, Name, signed_decimal}
 
--- this many spaces
-abbrev pub spaces : ℕ → List ℕ
-spaces count = replicate count (byte " ")
-
 -- the text at the right of a column of this width
 abbrev pub at_right : ℕ → List ℕ → List ℕ
-at_right width text = spaces (width - length text) ++ text
+at_right width text = replicate (width - length text) (byte " ") ++ text
 
 -- the text at the left of a column of this width
 abbrev pub at_left : ℕ → List ℕ → List ℕ
-at_left width text = text ++ spaces (width - length text)
+at_left width text = text ++ replicate (width - length text) (byte " ")
 
 -- a number of at most 16 bytes with its sign, or a text of at most 50
 abbrev pub FitsColumn : KeyPart → Type 0

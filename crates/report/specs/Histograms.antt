@@ -8,9 +8,10 @@ use Rattle.report.specs.Vocabulary.{flat_map, label, levels_of, signed_decimal}
 use Rattle.report.specs.Columns.{at_left, at_right}
 use Rattle.std.specs.Str.{byte}
 
--- from one bucket before the first with arguments to one after the last
-abbrev pub is_shown : List ℕ → ℕ → Bool
-is_shown counts bucket =
+-- From one bucket before the first with arguments to one after the last: arguments are in a bucket up
+-- to the next one, and in one from the bucket before.
+abbrev pub is_row : List ℕ → ℕ → Bool
+is_row counts bucket =
     nat_lt 0 (sum (take (bucket + 2) counts)) && nat_lt 0 (sum (drop (bucket - 1) counts))
 
 -- a bucket's label; of a range with a mark below the lower bound and above the last level
@@ -37,7 +38,7 @@ header = codes "           value  ------------- Distribution ------------- count
 
 -- the buckets that are shown, each with its count
 abbrev pub rows : Histogram → List (ℕ × ℕ)
-rows h = filter (λ row. is_shown h.counts row.0) (enumerate_from 0 h.counts)
+rows h = filter (λ row. is_row h.counts row.0) (enumerate_from 0 h.counts)
 
 -- a line feed, the header, the rows and a line feed
 abbrev pub histogram_bytes : Histogram → List ℕ

@@ -1,7 +1,7 @@
 //! Columns of a fixed width.
 
-ghost use Rattle.std.specs.Prelude.{◌≡◌, ◌≤◌, ◌++◌, OnOk};
-ghost use Rattle.report.specs.Columns.{spaces};
+ghost use Rattle.std.specs.Prelude.{◌≡◌, ◌≤◌, ◌++◌, OnOk, replicate};
+ghost use Rattle.std.specs.Str.{byte};
 
 use std::alloc::AllocError;
 
@@ -13,7 +13,7 @@ const BLANKS: [u8; MAX_SPACES] = [b' '; MAX_SPACES];
 /// Puts this many spaces.
 pub fn put_spaces(out: &mut Vec<u8>, count: usize) -> Result<(), AllocError>
     requires { count ≤ MAX_SPACES }
-    ensures { OnOk result (out.new.items ≡ out.old.items ++ spaces count) }
+    ensures { OnOk result (out.new.items ≡ out.old.items ++ replicate count (byte " ")) }
 {
     out.extend_from_slice(&BLANKS[..count])
 }

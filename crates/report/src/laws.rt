@@ -1,12 +1,13 @@
 //! What holds of every listing, of every output and of every entry's line.
 
 ghost use Rattle.std.specs.Prelude.{◌≡◌, ◌+◌, ◌<◌, ◌≤◌, ◌++◌, ℕ, ℤ, List, Some, All, length};
-ghost use Rattle.std.specs.Prelude.{slice_get, sum_by};
-ghost use Rattle.replay_core.specs.Layouts.{ShowsEach};
+ghost use Rattle.std.specs.Prelude.{codes, replicate, slice_get, sum_by};
+ghost use Rattle.std.specs.Str.{byte};
+ghost use Rattle.replay_core.specs.Layouts.{IsDeterministic};
 ghost use Rattle.report.specs.Vocabulary.{AggFn, Contribution, Held, KeyPart, Name, Single};
 ghost use Rattle.report.specs.Vocabulary.{figure_of, signed_decimal};
 ghost use Rattle.report.specs.{Output.IsOutput, Report.IsReport};
-ghost use Rattle.report.specs.Columns.{FitsColumn, column_width, spaces};
+ghost use Rattle.report.specs.Columns.{FitsColumn, column_width};
 ghost use Rattle.report.specs.Entry.{Entry, number_bytes, part_bytes, entry_bytes};
 ghost use Rattle.report.specs.Listing.{IsListing, ComesBefore};
 
@@ -34,7 +35,7 @@ pub fn has_output()
 
 /// Each run has one report.
 pub fn each_run_has_a_report()
-    ensures { ShowsEach IsReport }
+    ensures { IsDeterministic IsReport }
 {}
 
 /// The first of two entries of a listing has the lower rank, or the same rank and the lower key.
@@ -55,11 +56,11 @@ pub fn entries_stand_in_columns()
 /// A number is spaces, one at least, and then all its digits.
 pub fn numbers_stand_whole()
     ensures { (number : ℤ) → (blank : ℕ) × (0 < blank)
-        × (number_bytes number ≡ spaces blank ++ signed_decimal number) }
+        × (number_bytes number ≡ replicate blank (byte " ") ++ signed_decimal number) }
 {}
 
 /// A name is two spaces, the whole text and perhaps more spaces.
 pub fn names_stand_whole()
     ensures { (text : List ℕ) → (blank : ℕ)
-        × (part_bytes (Name text) ≡ spaces 2 ++ text ++ spaces blank) }
+        × (part_bytes (Name text) ≡ codes "  " ++ text ++ replicate blank (byte " ")) }
 {}

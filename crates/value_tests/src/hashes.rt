@@ -1,7 +1,6 @@
-//! Keys of a source that gives bytes and of one that fails, hashes that differ, and cached indices.
+//! Keys of a source that gives bytes and of one that fails, and hashes that differ.
 
-use keyed_hash::{DirectMapped, HashKey};
-use std::alloc::AllocError;
+use keyed_hash::HashKey;
 use std::hash::{BuildHasher, Hasher};
 use std::io;
 use std::io::ErrorKind;
@@ -64,14 +63,4 @@ fn hashes_differ(rt: HostRuntime) {
             assert!(rt; hash_of(key, one) != hash_of(key, other));
         }
     }
-}
-
-#[test]
-fn slots_have_what_was_put_last(rt: HostRuntime) -> Result<(), AllocError> {
-    let mut cache: DirectMapped<4> = DirectMapped::new(rt.alloc())?;
-    cache.put(1, 7);
-    cache.put(1, 9);
-    assert_eq!(rt; cache.get(1), 9);
-    assert_eq!(rt; cache.get(2), 0);
-    Ok(())
 }

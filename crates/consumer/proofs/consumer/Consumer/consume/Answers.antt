@@ -1,26 +1,31 @@
-use Rattle.std.proofs.Common.{[]}
-use Rattle.std.specs.Prelude.{Err}
+use Rattle.std.proofs.Common.{None, refl}
 use Rattle.consumer.proofs.Divisions.{division}
-use Rattle.consumer.proofs.Taken.{bundle_takes}
-use Rattle.consumer.proofs.Unread.{holds_of_any, memory_shown, none_shown}
+use Rattle.consumer.proofs.Unread.{holds_of_any, none_shown, read_fails}
 use Rattle.consumer.proofs.consumer.Consumer.consume.Goals as goal
 
-pub returns-in-Err-clause-shown : goal.returns-in-Err-clause-shown
-returns-in-Err-clause-shown g c = λ other. holds_of_any _ _
+pub returns-in_err-input-clause-shown : goal.returns-in_err-input-clause-shown
+returns-in_err-input-clause-shown g c = λ other. holds_of_any _ _
     (λ bundle. let parts = division bundle in
-    (parts.0, parts.1, parts.2, none_shown parts.0 parts.1 _ _ (Err c.from.result) c.in-Err.fault c.from.ensures other))
+    (parts.0, parts.1, parts.2, none_shown parts.0 parts.1 _ _ c.from_residual.result c.in_err-input.field-0.0 c.from_residual.ensures.1 other))
 
-pub returns-in_err-taken-in-Ok-clause-shown : goal.returns-in_err-taken-in-Ok-clause-shown
-returns-in_err-taken-in-Ok-clause-shown g c = λ other. holds_of_any _ _
-    (λ bundle. let parts = division bundle in
-    (parts.0, parts.1, parts.2, memory_shown parts.0 parts.1 _ _ c.from_residual.result c.from_residual.ensures.1))
+pub returns-in_err-input-clause-read : goal.returns-in_err-input-clause-read
+returns-in_err-input-clause-read g c = read_fails _ _ c.from_residual.result c.in_err-input.field-0.0 c.from_residual.ensures.1 c.in_err-input.ensures.reading
 
-pub returns-in_ok-taken-in-Ok-clause-shown : goal.returns-in_ok-taken-in-Ok-clause-shown
-returns-in_ok-taken-in-Ok-clause-shown g c = λ other.
-    let input = c.in-Ok.ensures.bytes in
-    let apart = c.in_ok-taken-in-Ok.ensures input.input (bundle_takes c.new-bundle.result input.input c.read_from.new.self input.taken [] c.new-bundle.ensures) in
+pub returns-clause-shown : goal.returns-clause-shown
+returns-clause-shown g c = λ other.
+    let all = c.in_ok-input.ensures.bytes in
+    let input = all.holds None (refl, refl) in
     record {
-      input = input.input;
-      read = input.read;
-      holds = (apart.script, apart.trace, apart.divides, c.show.ensures.shown apart.script apart.trace apart.is_judged apart.read);
+      input = all.input;
+      read = all.read;
+      holds = (
+        input.script,
+        input.trace,
+        input.splits,
+        record {
+          answer = c.answer.result;
+          is = c.answer.ensures input.script input.trace input.is_judged input.read;
+          out = c.write_out.ensures.out;
+        },
+      );
     }

@@ -1,25 +1,31 @@
-use Rattle.std.proofs.Common.{subst, sym}
-use Rattle.std.specs.Prelude.{Err}
-use Rattle.consumer.specs.Judging.{IsJudged}
-use Rattle.consumer.proofs.Taken.{trace_ended, trace_takes}
-use Rattle.consumer.proofs.Unread.{holds_of_any, memory_shown, none_shown}
+use Rattle.std.proofs.Common.{Some}
+use Rattle.consumer.specs.Consuming.{WritesAnswer}
+use Rattle.consumer.proofs.Taken.{begun_apart}
+use Rattle.consumer.proofs.Unread.{holds_of_any, memory_shown, none_shown, read_fails}
 use Rattle.consumer.proofs.consumer.Consumer.consume_trace.Goals as goal
 
-pub returns-in_err-taken-clause-shown : goal.returns-in_err-taken-clause-shown
-returns-in_err-taken-clause-shown g c = λ other. holds_of_any _ _
+pub returns-in_err-begun-clause-shown : goal.returns-in_err-begun-clause-shown
+returns-in_err-begun-clause-shown g c = λ other. holds_of_any _ _
     (λ trace. memory_shown c.args.script.now trace _ _ c.from_residual.result c.from_residual.ensures.1)
 
-pub returns-in-Err-clause-shown : goal.returns-in-Err-clause-shown
-returns-in-Err-clause-shown g c = λ other. holds_of_any _ _
-    (λ trace. none_shown c.args.script.now trace _ _ (Err c.from.result) c.in-Err.fault c.from.ensures other)
+pub returns-in_err-input-clause-shown : goal.returns-in_err-input-clause-shown
+returns-in_err-input-clause-shown g c = λ other. holds_of_any _ _
+    (λ trace. none_shown c.args.script.now trace _ _ c.from_residual-in_err-input.result c.in_err-input.field-0.0 c.from_residual-in_err-input.ensures.1 other)
 
-pub returns-in-Ok-clause-shown : goal.returns-in-Ok-clause-shown
-returns-in-Ok-clause-shown g c = λ other.
-    let input = c.in-Ok.ensures.bytes in
-    let takes = trace_takes c.in_ok-taken.taken input.input c.read_from.new.self input.taken in
+pub returns-in_err-input-clause-read : goal.returns-in_err-input-clause-read
+returns-in_err-input-clause-read g c = read_fails _ _ c.from_residual-in_err-input.result c.in_err-input.field-0.0 c.from_residual-in_err-input.ensures.1 c.in_err-input.ensures.reading
+
+pub returns-clause-shown : goal.returns-clause-shown
+returns-clause-shown g c = λ other.
+    let all = c.in_ok-input.ensures.bytes in
+    let input = all.holds (Some c.args.script.now) (begun_apart c.args.script.now c.in_ok-begun.begun c.in_ok-begun.ensures.judged c.in_ok-begun.ensures.trace) in
+    let shown : WritesAnswer g.L.Layout.shows input.script input.trace c.args.plan.now (g.S.Sink.seen c.args.sink.now) (g.S.Sink.seen c.write_out.new.sink) c.write_out.result = record {
+      answer = c.answer.result;
+      is = c.answer.ensures input.script input.trace input.is_judged input.read;
+      out = c.write_out.ensures.out;
+    } in
     record {
-      input = input.input;
-      read = input.read;
-      holds = c.show.ensures.shown c.args.script.now input.input (subst (IsJudged c.args.script.now) (sym takes.same) c.in_ok-taken.ensures.judged)
-          (trace_ended c.in_ok-taken.taken c.read_from.new.self input.input c.in_ok-taken.ensures.trace takes);
+      input = all.input;
+      read = all.read;
+      holds = rw (input.splits.0, input.splits.1) at shown;
     }

@@ -1,11 +1,15 @@
-use Rattle.std.proofs.Common.{ap}
+use Rattle.std.proofs.Common.{ap, subst}
 use Rattle.consumer.specs.Program.{ran, without_run}
+use Rattle.consumer.specs.Refusals.{IsReported}
 use Rattle.consumer.proofs.consumer.Consumer.program.Goals as goal
 
+-- a run leaves the errors' stream as it was, and the end writes to no other
 pub returns-in-Ok : goal.returns-in-Ok
 returns-in-Ok g c =
-    let run = c.run_status-status.ensures in
-    ran c.in-Ok.request run.answer c.in-Ok.ensures run.run run.ends run.line
+    let answer = c.run_request-answer.result in
+    let r = c.run_request-answer.ensures.run in
+    ran c.in-Ok.request answer c.in-Ok.ensures (record { shown = r.shown; read = r.read; unread = r.unread }) c.end-status.ensures.status
+    (subst (λ e. IsReported answer (g.E.Sink.seen e) (g.E.Sink.seen c.end-status.new.errors)) c.run_request-answer.ensures.errors c.end-status.ensures.line)
 
 pub returns-in-Err : goal.returns-in-Err
 returns-in-Err g c = without_run c.in-Err.fault c.in-Err.ensures (ap g.F.Feed.seen c.explain-status.ensures.input) c.explain-status.ensures.ends

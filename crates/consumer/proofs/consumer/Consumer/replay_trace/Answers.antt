@@ -1,6 +1,6 @@
 use Rattle.std.proofs.lemmas.Result.{err_from_is_err_and}
 use Rattle.d_types.specs.TypedScripts.{typed_script_of}
-use Rattle.consumer.specs.Answer.{Means}
+use Rattle.consumer.specs.Answer.{Denote}
 use Rattle.consumer.proofs.Refusing.{groups_refused, out_of_memory, refused}
 use Rattle.consumer.proofs.consumer.Consumer.replay_trace.Goals as goal
 
@@ -15,7 +15,7 @@ pub returns : goal.returns
 returns g c = λ source bytes accepted reads.
     let m = typed_script_of c.args.script.now in
     let shown = rw c.in_ok-replayed.was at (c.replay_groups-answer.ensures c.in_ok-groups.ensures.grouped) in
-    let means : Means source bytes m c.args.trace.now = record { accepted = accepted; reads = reads } in
+    let means : Denote source bytes m c.args.trace.now = record { accepted = accepted; reads = reads } in
     record { answer = (m, c.args.trace.now, means, shown.0); fault = tt; carried = (m, c.args.trace.now, means, shown.1) }
 
 pub returns-in_err-replayed : goal.returns-in_err-replayed
