@@ -90,7 +90,7 @@ def others(question, written):
 
 def facts_of(output):
     """What an answer of dreplay says, as mawk writes it, a line each: a text; keys and a value;
-    keys, a bucket's label and its count, where it isn't 0."""
+    keys, a bucket's label and its count, if it isn't 0."""
     facts, keys = [], []
     for line in output.splitlines():
         label, bar, rest = line.partition(b" |")

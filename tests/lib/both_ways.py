@@ -1,5 +1,5 @@
 """The two ways from a recording of strace to a trace: the program dreplay-rows, and the converter
-by itself. Where the program converts all, the other has to write the same bytes and say nothing.
+by itself. If the program converts all, the other has to write the same bytes and say nothing.
 """
 import os
 import random

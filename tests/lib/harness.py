@@ -164,7 +164,7 @@ def parser_of_all_programs(doc):
 
 
 def all_programs_of(args, tally):
-    """The programs to run that are built, and those of dreplay-data. Where either is given, only
+    """The programs to run that are built, and those of dreplay-data. If either is given, only
     what is given is run."""
     chosen = args.program or [], args.data_program or []
     if not any(chosen):
@@ -217,7 +217,7 @@ def add_names(made):
 
 def all_programs_and_names(doc, tally):
     """Parses a test's command line by its doc: the programs to run, of dreplay, dreplay-data and
-    dreplay-rows, and the names of cases and examples. Where a program is given, only what is given
+    dreplay-rows, and the names of cases and examples. If a program is given, only what is given
     is run."""
     made = parser_of_all_programs(doc)
     program = "a dreplay-rows to run likewise"

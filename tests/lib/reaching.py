@@ -1,7 +1,7 @@
 """Which public functions of the crates nothing calls that a program's `main` reaches.
 
 It goes by the text. A call of a method may be one of each method with this name, as many arguments
-and a type that the calling file can have a value of; a method is reached only where its type is
+and a type that the calling file can have a value of; a method is reached only if its type is
 named by what is reached. So each function that it finds is unused, and one may be unused that it
 doesn't find.
 """

@@ -18,7 +18,7 @@ def text_of(path):
 
 
 class Refusals:
-    """Where rt keeps what it proved, it also keeps which edits were refused, each by the sum of all
+    """If rt keeps what it proved, it also keeps which edits were refused, each by the sum of all
     that this depends on: the edit, its crate and those below it, the kit, and the scripts that try
     it. What was tried over the libraries of rt ci is kept apart from what was tried over others.
     """

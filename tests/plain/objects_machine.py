@@ -180,7 +180,7 @@ class Run:
         raise AssertionError("a run of more steps than there are instructions")
 
     def step(self, it):
-        """What an instruction changes, where the next one follows."""
+        """What an instruction changes, if the next one follows."""
         made = self.compute(it)
         if made is not None and it.d:
             self.registers[it.d] = made % WORDS if isinstance(made, int) else made

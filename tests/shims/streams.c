@@ -32,7 +32,7 @@ __attribute__((constructor)) static void start(void)
     real_getentropy = (int (*)(void *, size_t))dlsym(RTLD_NEXT, "getentropy");
 }
 
-// Whether this call fails. Where it doesn't, the size is made as short as it may be.
+// Whether this call fails. If it doesn't, the size is made as short as it may be.
 static int call_fails(struct stream *it, size_t *size)
 {
     if (++it->calls == it->failing) {

@@ -89,7 +89,7 @@ def sortable(keys):
 
 
 def on_scale(entries, function, args, most):
-    """Entries of one number as key as bars on a scale: a label and a value for each place. Where
+    """Entries of one number as key as bars on a scale: a label and a value for each place. If
     values can't be joined, as averages, or aren't all there, gaps have a mark; none where there are
     too many.
     """

@@ -75,7 +75,7 @@ class Tool:
         self.name, self.progress_shown = name, False
 
     def say(self, what):
-        """Writes a line to standard error. Where that is closed, nobody wants to read it."""
+        """Writes a line to standard error. If that is closed, nobody wants to read it."""
         try:
             self.erase_progress()
             print(shorten(f"{self.name}: {what}", MAX_SAID), file=sys.stderr, flush=True)

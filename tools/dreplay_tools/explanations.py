@@ -22,7 +22,7 @@ class Inputs:
     script: bytes
     trace: bytes
     is_bundle: bool = False
-    missing: str = None  # the script's file, where it doesn't exist
+    missing: str = None  # the script's file, if it doesn't exist
 
 
 def escape(letter):

@@ -50,7 +50,7 @@ class Events:
             yield "thread_name"
 
     def of(self, row):
-        """The events of a row: before those of a process or thread its name, where that is new."""
+        """The events of a row: before those of a process or thread its name, if that is new."""
         thread, process, time, name = int(row[2][:20]), int(row[3][:20]), int(row[5][:20]), row[9]
         if self.first is None:
             self.first = time
