@@ -1,15 +1,18 @@
 -- A call that executes an instruction, where the instruction is known.
-use Rattle.std.specs.Prelude.{◌≡◌, ◌≢◌, ◌<◌, ◌+◌, ℕ, List, Option, None, Some, Result, Ok, length, slice_get}
+use Rattle.std.specs.Prelude.{◌≡◌, ◌≢◌, ◌<◌, ◌+◌, ℕ, List, Option, None, Some, Result, Ok, Err, IsErrAnd, length, slice_get}
 use Rattle.std.proofs.Common.{refl, sym, ap, subst, ⊎_elim, ◌∙◌, arith}
 use Rattle.std.proofs.lemmas.Option.{slice_get_cases}
 use Rattle.numbered.specs.declared.word.Word.{Word}
 use Rattle.numbered.specs.Texts.{Keeps}
-use Rattle.dif_machine.specs.Vocabulary.{Firing, Instr, MachineFault, Object, Reg, Value, Variables}
+use Rattle.dif_machine.specs.Vocabulary.{Firing, Instr, MachineFault, Memory, Object, Reg, Value}
+use Rattle.dif_machine.specs.Vocabulary.{Variables}
 use Rattle.dif_machine.specs.Frames.{Frame, at_index, with_register, with_value}
 use Rattle.dif_machine.specs.Machine.{IsWordOf, Knows, Seen, value_of}
 use Rattle.dif_machine.specs.Semantics.{Goes, Next, Stuck, act, on}
 use Rattle.dif_machine.specs.Steps.Instructions.{CanExecute, ExecutesFor, ExecutesOn, Grows}
 use Rattle.dif_machine.specs.Steps.Instructions.{LeadsTo, with_frame}
+use Rattle.dif_machine.specs.Memories.{IsRunning}
+use Rattle.dif_machine.specs.Steps.Lasting.{Lasts}
 use Rattle.dif_machine.specs.Steps.Semantics.{Stepped}
 use Rattle.dif_machine.specs.declared.onward.Onward.{Onward}
 use Rattle.dif_machine.specs.declared.onward.Onward.TheVariants as onward
@@ -28,25 +31,38 @@ can_here i next s c index is_next =
     let same : c.3 ≡ index = omega (arith, c.4, is_next) in
     (c.0, c.1, c.2, subst (λ p. act i c.0 c.1 (at_index s p) c.2 ≢ Stuck) same c.5)
 
+-- if neither the texts nor those that last are others
+pub still_lasts : (m n : Seen) → n.texts ≡ m.texts → n.lasting ≡ m.lasting → Keeps m.lasting m.texts → Lasts m n
+still_lasts m n texts lasting among = record {
+  more = subst (Keeps m.lasting) (sym lasting) (keeps_refl m.lasting);
+  among = subst (λ l. Keeps l n.texts) (sym lasting) (subst (Keeps m.lasting) (sym texts) among);
+}
+
 module _ (i : Instr) (next : ℕ) (o : Object) (f : Firing) (m : Seen) where
   -- the frame alone is another
   pub goes : (n : Seen) (t : Frame) → n ≡ with_frame m t → ((index : ℕ) → next ≡ index + 1 → (vars : Variables) → act i o f (at_index m.frame index) vars ≡ Goes (at_index t (index + 1)) vars)
       → ExecutesFor i next o f m (Ok (onward.Goes next)) n
   goes n t e acts = subst (ExecutesFor i next o f m (Ok (onward.Goes next))) (sym e) (record {
     kept = keeps_refl m.texts;
+    lasting = still_lasts m (with_frame m t) refl refl;
     known = λ k. k;
     stepped = λ index is_next vars. acts index is_next vars ∙ sym (λ j. Goes (at_index t (is_next j)) vars);
   })
 
   -- a word was found, and put into a register
-  pub finds : (k n : Seen) (d : Reg) (value : Value) → Keeps m.texts k.texts → k.frame ≡ m.frame → (Knows f m.known → Knows f k.known) → n ≡ with_frame k (with_register k.frame d (Some value))
+  pub finds : (k n : Seen) (d : Reg) (value : Value) → Keeps m.texts k.texts → Lasts m k → k.frame ≡ m.frame → (Knows f m.known → Knows f k.known) → n ≡ with_frame k (with_register k.frame d (Some value))
       → ((index : ℕ) → next ≡ index + 1 → (vars : Variables) → act i o f (at_index m.frame index) vars ≡ Goes (with_value (at_index m.frame index) d value) vars)
       → ExecutesFor i next o f m (Ok (onward.Goes next)) n
-  finds k n d value kept frame known e acts = subst (ExecutesFor i next o f m (Ok (onward.Goes next))) (sym e) (record {
+  finds k n d value kept lasts frame known e acts = subst (ExecutesFor i next o f m (Ok (onward.Goes next))) (sym e) (record {
     kept = kept;
+    lasting = λ among. record { more = lasts.more; among = lasts.among };
     known = known;
     stepped = λ index is_next vars. acts index is_next vars ∙ sym (λ j. Goes (at_index (with_register (frame j) d (Some value)) (is_next j)) vars);
   })
+
+pub refused : {X : Type 0} (r : Result X MachineFault) → IsErrAnd r (λ e. e ≡ Memory) → r ≡ Err Memory
+refused (Ok x) e = absurd e
+refused (Err fault) e = ap Err e
 
 -- more texts with numbers change nothing
 abbrev pub IsStable : {M : Type 0} → (M → List (List ℕ) → Variables) → (M → List (List ℕ) → Type 0) → Type 0
@@ -58,27 +74,46 @@ module _ {M : Type 0} (holds : M → List (List ℕ) → Variables) (is_over : M
   on_memory next read i is result left n e = subst (λ i. ExecutesOn holds is_over beside i next o f memory m result left n) (sym is) e
 
   -- memory wasn't asked
-  pub executed : IsStable holds is_over → (next : ℕ) (i : Instr) (result : Result Onward MachineFault) (n : Seen) → is_over memory m.texts → ExecutesFor i next o f m result n → ExecutesOn holds is_over beside i next o f memory m result memory n
-  executed stable next i result n over e index is_next =
-      let s = stable memory m.texts n.texts over e.kept in
+  pub executed : IsStable holds is_over → (next : ℕ) (i : Instr) (result : Result Onward MachineFault) (n : Seen) → IsRunning is_over memory m → ExecutesFor i next o f m result n → ExecutesOn holds is_over beside i next o f memory m result memory n
+  executed stable next i result n r e index is_next =
+      let all = stable memory m.lasting m.texts r.over r.among in
+      let s = stable memory m.texts n.texts all.0 e.kept in
+      let lasts = e.lasting r.among in
       record {
-        kept = e.kept;
+        lasting = lasts;
         known = e.known;
-        over = s.0;
+        over = (stable memory m.lasting n.lasting r.over lasts.more).0;
         others = refl;
         stepped = subst (Stepped (holds memory m.texts) (act i o f (at_index m.frame index) (holds memory m.texts)) result n.frame) (sym s.1) (e.stepped index is_next (holds memory m.texts));
       }
 
   -- a variable was loaded into a register
-  pub loaded : (next : ℕ) (i : Instr) (d : Reg) (value : Value) (left : M) (k n : Seen) (w : Word) → Grows m k → is_over left k.texts → holds left k.texts ≡ holds memory m.texts → beside left ≡ beside memory → IsWordOf k.texts w value
+  pub loaded : IsStable holds is_over → IsRunning is_over memory m → (next : ℕ) (i : Instr) (d : Reg) (value : Value) (left : M) (k n : Seen) (w : Word) → Grows m k → left ≡ memory → IsWordOf k.texts w value
       → n ≡ with_frame k (with_register k.frame d (Some (value_of k.texts w)))
       → ((index : ℕ) → next ≡ index + 1 → act i o f (at_index m.frame index) (holds memory m.texts) ≡ Goes (with_value (at_index m.frame index) d value) (holds memory m.texts))
       → ExecutesOn holds is_over beside i next o f memory m (Ok (onward.Goes next)) left n
-  loaded next i d value left k n w grows over same others is put acts index is_next =
-      subst (λ n. LeadsTo holds is_over beside f memory m (Ok (onward.Goes next)) left n (act i o f (at_index m.frame index) (holds memory m.texts))) (sym put) (record {
-        kept = grows.kept;
+  loaded stable r next i d value left k n w grows stays is put acts index is_next =
+      let all = stable memory m.lasting m.texts r.over r.among in
+      let same = (stable memory m.texts k.texts all.0 grows.kept).1 in
+      subst (λ left. LeadsTo holds is_over beside f memory m (Ok (onward.Goes next)) left n (act i o f (at_index m.frame index) (holds memory m.texts))) (sym stays)
+      (subst (λ n. LeadsTo holds is_over beside f memory m (Ok (onward.Goes next)) memory n (act i o f (at_index m.frame index) (holds memory m.texts))) (sym put) (record {
+        lasting = record { more = grows.lasting.more; among = grows.lasting.among };
         known = subst (Knows f) (sym grows.known);
-        over = over;
-        others = others;
+        over = (stable memory m.lasting k.lasting r.over grows.lasting.more).0;
+        others = refl;
         stepped = acts index is_next ∙ sym (λ j. Goes (at_index (with_register (grows.frame j) d (Some (is.is j))) (is_next j)) (same j));
-      })
+      }))
+
+  -- or memory was refused to it
+  pub unloaded : IsStable holds is_over → IsRunning is_over memory m → (next : ℕ) (i : Instr) (result : Result Onward MachineFault) (left : M) (k : Seen) → Grows m k → left ≡ memory → result ≡ Err Memory
+      → ExecutesOn holds is_over beside i next o f memory m result left k
+  unloaded stable r next i result left k grows stays refused index is_next =
+      let all = stable memory m.lasting m.texts r.over r.among in
+      subst (λ left. LeadsTo holds is_over beside f memory m result left k (act i o f (at_index m.frame index) (holds memory m.texts))) (sym stays)
+      (subst (λ result. LeadsTo holds is_over beside f memory m result memory k (act i o f (at_index m.frame index) (holds memory m.texts))) (sym refused) (record {
+        lasting = record { more = grows.lasting.more; among = grows.lasting.among };
+        known = subst (Knows f) (sym grows.known);
+        over = (stable memory m.lasting k.lasting r.over grows.lasting.more).0;
+        others = refl;
+        stepped = (stable memory m.texts k.texts all.0 grows.kept).1;
+      }))

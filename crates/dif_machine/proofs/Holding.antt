@@ -1,14 +1,14 @@
 -- Words as they are held, read and written.
-use Rattle.std.specs.Prelude.{◌≡◌, ◌≢◌, ◌<◌, ◌∷◌, [], ℕ, suc, List, length, Option, None, Some}
+use Rattle.std.specs.Prelude.{◌≡◌, ◌≢◌, ◌<◌, ◌≤◌, ◌∷◌, [], ℕ, suc, List, length, take, Option, None, Some}
 use Rattle.std.specs.Prelude.{IfSome, map, option_map, slice_index_or, slice_set}
 use Rattle.std.proofs.Common.{refl, sym, ap, ◌∙◌, subst, arith}
-use Rattle.std.proofs.lemmas.Option.{slice_get_within, get_or_from_slice_get}
+use Rattle.std.proofs.lemmas.Option.{slice_get_within, slice_get-get_or, get_or_from_slice_get}
 use Rattle.std.specs.List.{All}
 use Rattle.std.proofs.Math.ListN.{get_or-map}
-use Rattle.std.proofs.lemmas.List.{map-set}
+use Rattle.std.proofs.lemmas.List.{get_or-take, length-take, length-take-le, map-set}
 use Rattle.std.proofs.lemmas.List.Elements.{All-weaker}
 use Rattle.numbered.specs.declared.word.Word.{Word}
-use Rattle.numbered.specs.Texts.{IsNumberOf, Keeps, text_at}
+use Rattle.numbered.specs.Texts.{AreDistinct, IsNumberOf, Keeps, text_at}
 use Rattle.d_values.specs.Keys.{part_of}
 use Rattle.dif_validate.specs.Registers.{register_number}
 use Rattle.dif_validate.specs.declared.register.Reg.TheVariants.{R0}
@@ -48,6 +48,42 @@ keeps_on first old new a b = record {
   distinct = λ d. b.distinct (a.distinct d);
 }
 
+-- ---- the first texts
+
+pub number_before : (texts : List (List ℕ)) (k n : ℕ) (bytes : List ℕ) → IsNumberOf (take k texts) n bytes → IsNumberOf texts n bytes
+number_before texts k n bytes e =
+    let inside = slice_get_within (take k texts) n bytes e in
+    let long = length-take k texts in
+    slice_get-get_or texts n [] (omega (arith, inside, long)) ∙ ap Some (sym (get_or-take k texts n [] (omega (arith, inside, long))) ∙ get_or_from_slice_get (take k texts) n bytes [] e)
+
+pub number_still : (texts : List (List ℕ)) (k n : ℕ) (bytes : List ℕ) → IsNumberOf texts n bytes → n < length (take k texts) → IsNumberOf (take k texts) n bytes
+number_still texts k n bytes e inside =
+    slice_get-get_or (take k texts) n [] inside ∙ ap Some (get_or-take k texts n [] (omega (arith, inside, length-take k texts)) ∙ get_or_from_slice_get texts n bytes [] e)
+
+pub take_distinct : (texts : List (List ℕ)) (k : ℕ) → AreDistinct texts → AreDistinct (take k texts)
+take_distinct texts k distinct m n bytes first second = distinct m n bytes (number_before texts k m bytes first) (number_before texts k n bytes second)
+
+module _ (texts : List (List ℕ)) (distinct : AreDistinct texts) (k : ℕ) (inside : k ≤ length texts) where
+  pub first_among : Keeps (take k texts) texts
+  first_among =
+      let long = length-take-le k texts inside in
+      record {
+        long = omega (arith, long, inside);
+        same = λ n h. sym (get_or-take k texts n [] (omega (arith, h, long)));
+        distinct = λ d. distinct;
+      }
+
+  -- more of the first texts, or of more texts
+  pub first_kept : (new : List (List ℕ)) → Keeps texts new → (j : ℕ) → k ≤ j → j ≤ length new → Keeps (take k texts) (take j new)
+  first_kept new kept j least most =
+      let long = length-take-le k texts inside in
+      let longer = length-take-le j new most in
+      record {
+        long = omega (arith, long, longer, least);
+        same = λ n h. get_or-take j new n [] (omega (arith, h, long, least)) ∙ kept.same n (omega (arith, h, long, inside)) ∙ sym (get_or-take k texts n [] (omega (arith, h, long)));
+        distinct = λ d. take_distinct new j (kept.distinct distinct);
+      }
+
 module _ (old new : List (List ℕ)) (kept : Keeps old new) where
   content_kept : (c : Content) → IsContentWithin old c → content_of new c ≡ content_of old c
   content_kept content.Unset h = refl
@@ -78,20 +114,28 @@ module _ (old new : List (List ℕ)) (kept : Keeps old new) where
   pub key_kept : (words : List Word) → All (IsWithin old) words → key_in new words ≡ key_in old words
   key_kept words all = map_kept (IsWithin old) (λ w. part_of (value_of new w)) (λ w. part_of (value_of old w)) (λ w h. ap part_of (value_kept old new kept w h)) words all
 
-  pub frame_kept : (cells : List Content) (known : Option Comparison) (words : List Word) (numbers : List (Option ℕ)) → IsSound old cells words numbers
+  pub frame_kept : (lasting : ℕ) (cells : List Content) (known : Option Comparison) (words : List Word) (numbers : List (Option ℕ)) → IsSound old lasting cells words numbers
       → ◌≡◌ {A = Frame} (record { pc = 0; registers = contents new cells; comparison = known; tuple = key_in new words }) (record { pc = 0; registers = contents old cells; comparison = known; tuple = key_in old words })
-  frame_kept cells known words numbers s =
+  frame_kept lasting cells known words numbers s =
       let registers = contents_kept cells s.registers in
       let tuple = key_kept words s.tuple in
       λ i. record { pc = 0; registers = registers i; comparison = known; tuple = tuple i }
 
-  -- what a machine shows, after texts were added
-  pub grown : (cells : List Content) (known : Option Comparison) (words : List Word) (numbers : List (Option ℕ)) (m : Seen) → IsSound old cells words numbers → seen_of old cells known words numbers ≡ m → Grows m (seen_of new cells known words numbers)
-  grown cells known words numbers m s is = subst (λ m. Grows m (seen_of new cells known words numbers)) is (record {
-    kept = kept;
-    frame = frame_kept cells known words numbers s;
-    known = found_kept numbers s.numbers;
-  })
+module _ (old new : List (List ℕ)) (kept : Keeps old new) (lasting : ℕ) (cells : List Content) (known : Option Comparison) (words : List Word) (numbers : List (Option ℕ)) (m : Seen) (s : IsSound old lasting cells words numbers) (is : seen_of old lasting cells known words numbers ≡ m) where
+  -- what a machine shows, after texts were added, of which this many last
+  pub lasts : (later : ℕ) → lasting ≤ later → later ≤ length new → Grows m (seen_of new later cells known words numbers)
+  lasts later least most =
+      let more = first_kept old s.distinct lasting s.inside new kept later least most in
+      subst (λ m. Grows m (seen_of new later cells known words numbers)) is (record {
+        kept = kept;
+        lasting = record { more = more; among = first_among new (kept.distinct s.distinct) later most };
+        frame = frame_kept old new kept lasting cells known words numbers s;
+        known = found_kept (take lasting old) (take later new) more numbers s.numbers;
+      })
+
+  -- as many as before
+  pub grown : Grows m (seen_of new lasting cells known words numbers)
+  grown = lasts lasting (omega arith) (omega (arith, s.inside, kept.long))
 
 pub number_within : (texts : List (List ℕ)) (n : ℕ) (bytes : List ℕ) → IsNumberOf texts n bytes → n < length texts
 number_within texts n bytes e = slice_get_within texts n bytes e

@@ -1,13 +1,13 @@
 -- Runs of objects that load one value and return it.
-use Rattle.std.specs.Prelude.{◌≡◌, ℕ, List, [], ◌∷◌, Some, Result, Ok, Err, IsErrAnd, slice_get}
+use Rattle.std.specs.Prelude.{◌≡◌, ℕ, List, [], ◌∷◌, Some, Result, Ok, Err, IfOk, IsErrAnd, slice_get}
 use Rattle.std.proofs.Common.{refl, sym, ap, subst, ◌∙◌}
 use Rattle.numbered.specs.Texts.{Keeps}
 use Rattle.numbered.specs.declared.word.Word.{Word}
 use Rattle.dif_validate.specs.Loads.{IsElement}
 use Rattle.dif_machine.specs.Vocabulary.{Firing, Flushts, Instr, Ldga, Ldgs, Ldtaa, MachineFault, Memory, Name, Object, Pushtr, Ret, Value, Int, Text, Var, Variables}
 use Rattle.dif_machine.specs.Frames.{Frame, start, with_tuple, with_value}
-use Rattle.dif_machine.specs.Machine.{IsWithin, IsWordOf, Knows, Seen, value_of}
-use Rattle.dif_machine.specs.Memories.{IsReady, RunsOver}
+use Rattle.dif_machine.specs.Machine.{IsWithin, IsWordOf, Knows, Seen, value_of, word_result}
+use Rattle.dif_machine.specs.Memories.{RunsOver}
 use Rattle.dif_machine.specs.Runs.{Returns, RunEnds, ends, goes, Runs}
 use Rattle.dif_machine.specs.Semantics.{Goes, on, act, puts, step_of}
 use Rattle.dif_machine.specs.Sources.{argument_of, built_ins, own_value}
@@ -54,29 +54,25 @@ loads_element o f x v bytes vars e there =
     (goes left vars (step_is o f found Flushts vars e.fourth)
     (ends held vars (step_is o f left (Ret R1) vars e.fifth)))))
 
--- what loading leaves: texts may be more, and the memory holds what it held, and has what it had
--- beside
-pub record Leaves {M : Type 0} (holds : M → List (List ℕ) → Variables) (is_over : M → List (List ℕ) → Type 0) (others : M → List ℕ → ℕ) (f : Firing) (memory : M) (m : Seen) (left : M) (n : Seen) : Type 0 where
-  pub kept : Keeps m.texts n.texts
-  pub ready : IsReady is_over f left n
-  pub same : holds left n.texts ≡ holds memory m.texts
-  pub beside : others left ≡ others memory
+-- a memory that stays as it was, of which only texts may be more
+module _ {M : Type 0} (holds : M → List (List ℕ) → Variables) (is_over : M → List (List ℕ) → Type 0) (others : M → List ℕ → ℕ) (o : Object) (f : Firing) (memory : M) (m : Seen) (stable : IsStable holds is_over) (over : is_over memory m.texts)
+    (left : M) (n : Seen) (stays : left ≡ memory) (kept : Keeps m.texts n.texts) (known : Knows f n.known) where
+  same : is_over memory n.texts × (holds memory n.texts ≡ holds memory m.texts)
+  same = stable memory m.texts n.texts over kept
 
-module _ {M : Type 0} (holds : M → List (List ℕ) → Variables) (is_over : M → List (List ℕ) → Type 0) (others : M → List ℕ → ℕ) (o : Object) (f : Firing) (memory : M) (m : Seen) where
-  -- memory wasn't asked
-  pub unasked : IsStable holds is_over → (n : Seen) → is_over memory m.texts → Keeps m.texts n.texts → Knows f n.known → Leaves holds is_over others f memory m memory n
-  unasked stable n over kept known =
-      let s = stable memory m.texts n.texts over kept in
-      record { kept = kept; ready = record { known = known; over = s.0 }; same = s.1; beside = refl }
+  ran : (r : Result Word MachineFault) → RunEnds o f (holds memory m.texts) (word_result n.texts r) (holds memory m.texts) → IfOk r (IsWithin n.texts) → RunsOver holds is_over others o f memory m r left n
+  ran r arrived within = subst (λ left. RunsOver holds is_over others o f memory m r left n) (sym stays) (record {
+    ends = subst (RunEnds o f (holds memory m.texts) (word_result n.texts r)) (sym same.1) arrived;
+    within = within;
+    kept = kept;
+    ready = record { known = known; over = same.0 };
+    beside = refl;
+  })
 
   -- there was no room
-  pub refused : (left : M) (n : Seen) (r : Result Word MachineFault) → Leaves holds is_over others f memory m left n → IsErrAnd r (λ e. e ≡ Memory) → RunsOver holds is_over others o f memory m r left n
-  refused left n (Ok w) l e = absurd e
-  refused left n (Err fault) l e =
-      let ends = subst (RunEnds o f (holds memory m.texts) (Err fault)) (sym l.same) (refused_first o f (holds memory m.texts) (Err fault) e) in
-      record { ends = ends; within = tt; kept = l.kept; ready = l.ready; beside = l.beside }
+  pub refused : (r : Result Word MachineFault) → IsErrAnd r (λ e. e ≡ Memory) → RunsOver holds is_over others o f memory m r left n
+  refused (Ok w) e = absurd e
+  refused (Err fault) e = ran (Err fault) (refused_first o f (holds memory m.texts) (Err fault) e) tt
 
-  pub returned : (left : M) (n : Seen) (w : Word) → Leaves holds is_over others f memory m left n → IsWithin n.texts w → Runs o f (holds memory m.texts) (Returns (value_of n.texts w) (holds memory m.texts)) → RunsOver holds is_over others o f memory m (Ok w) left n
-  returned left n w l within run =
-      let ends = subst (RunEnds o f (holds memory m.texts) (Ok (value_of n.texts w))) (sym l.same) run in
-      record { ends = ends; within = within; kept = l.kept; ready = l.ready; beside = l.beside }
+  pub returned : (w : Word) → IsWithin n.texts w → Runs o f (holds memory m.texts) (Returns (value_of n.texts w) (holds memory m.texts)) → RunsOver holds is_over others o f memory m (Ok w) left n
+  returned w within run = ran (Ok w) run within

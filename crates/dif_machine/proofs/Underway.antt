@@ -1,39 +1,42 @@
 -- A run over words, so far.
-use Rattle.std.specs.Prelude.{◌≡◌, ◌≢◌, ◌<◌, ◌+◌, ℕ, List, None, Some, Result, Ok, Err, slice_get}
+use Rattle.std.specs.Prelude.{◌≡◌, ◌≢◌, ◌<◌, ◌+◌, ℕ, List, None, Some, Result, Ok, Err, IfOk, slice_get}
 use Rattle.std.proofs.Common.{refl, sym, ap, subst, ◌∙◌}
 use Rattle.std.proofs.lemmas.Option.{none-some, same_Some}
 use Rattle.numbered.specs.Texts.{Keeps}
 use Rattle.numbered.specs.declared.word.Word.{Word}
 use Rattle.dif_machine.specs.Vocabulary.{Firing, Instr, IsValid, MachineFault, Object, Reg, at}
-use Rattle.dif_machine.specs.Vocabulary.{Variables}
+use Rattle.dif_machine.specs.Vocabulary.{Value, Variables}
 use Rattle.dif_machine.specs.Frames.{at_index, start}
-use Rattle.dif_machine.specs.Machine.{Knows, Seen, value_of}
+use Rattle.dif_machine.specs.Machine.{IsWithin, Knows, Seen, word_result}
 use Rattle.dif_machine.specs.Runs.{RunEnds}
 use Rattle.dif_machine.specs.Semantics.{Stuck, act, on, step_of}
-use Rattle.dif_machine.specs.Steps.Instructions.{ExecutesOn, LeadsTo, with_frame}
+use Rattle.dif_machine.specs.Memories.{IsRunning, RunsOver}
+use Rattle.dif_machine.specs.Steps.Instructions.{ExecutesOn, LeadsTo}
+use Rattle.dif_machine.specs.Steps.Lasting.{Rests, restarted}
 use Rattle.dif_machine.specs.declared.onward.Onward.{Onward}
 use Rattle.dif_machine.specs.declared.onward.Onward.TheVariants as onward
+use Rattle.dif_machine.proofs.Executing.{IsStable}
 use Rattle.dif_machine.proofs.Holding.{keeps_on, keeps_refl}
 use Rattle.dif_machine.proofs.Progress.{Follows, follows_start, follows_on, never_stuck, ends_well}
 use Rattle.dif_machine.proofs.Progress.{ends_badly}
 
--- it follows the run of the definition, texts keep their numbers, those that were found are the
--- firing's, and memory knows them and has what it had beside
+-- it follows the run of the definition, texts that last keep their numbers, those that were found
+-- are the firing's, and memory knows those that last and has what it had beside
 pub record IsUnderWay {M : Type 0} (holds : M → List (List ℕ) → Variables) (is_over : M → List (List ℕ) → Type 0) (beside : M → List ℕ → ℕ) (o : Object) (f : Firing)
     (first : M) (m : Seen) (index : ℕ) (memory : M) (n : Seen) : Type 0 where
   pub follows : Follows o f (holds first m.texts) (at_index n.frame index) (holds memory n.texts)
-  pub kept : Keeps m.texts n.texts
+  pub kept : Keeps m.texts n.lasting
   pub known : Knows f n.known
-  pub over : is_over memory n.texts
+  pub running : IsRunning is_over memory n
   pub others : beside memory ≡ beside first
 
 module _ {M : Type 0} (holds : M → List (List ℕ) → Variables) (is_over : M → List (List ℕ) → Type 0) (beside : M → List ℕ → ℕ) (o : Object) (f : Firing) (first : M) (m : Seen) where
-  pub begins : (n : Seen) → IsValid o → n ≡ with_frame m start → Knows f m.known → is_over first m.texts → IsUnderWay holds is_over beside o f first m 0 first n
+  pub begins : (n : Seen) → IsValid o → n ≡ restarted m → Knows f m.known → is_over first m.texts → IsUnderWay holds is_over beside o f first m 0 first n
   begins n valid e known over = subst (IsUnderWay holds is_over beside o f first m 0 first) (sym e) (record {
     follows = follows_start o f (holds first m.texts) valid;
     kept = keeps_refl m.texts;
     known = known;
-    over = over;
+    running = record { over = over; among = keeps_refl m.texts };
     others = refl;
   })
 
@@ -50,14 +53,14 @@ module _ {M : Type 0} (holds : M → List (List ℕ) → Variables) (is_over : M
       goes_on next e =
           let led = stepped (Ok (onward.Goes next)) e in
           let on = follows_on o f (holds first m.texts) (at_index n.frame index) (at_index k.frame next) (holds memory n.texts) (holds left k.texts) u.follows led.stepped in
-          (on.0, record { follows = on.1; kept = keeps_on m.texts n.texts k.texts u.kept led.kept; known = led.known u.known; over = led.over; others = led.others ∙ u.others })
+          (on.0, record { follows = on.1; kept = keeps_on m.texts n.lasting k.lasting u.kept led.lasting.more; known = led.known u.known; running = record { over = led.over; among = led.lasting.among }; others = led.others ∙ u.others })
 
       pub is_there : (a : Reg) → ExecutesOn holds is_over beside i (index + 1) o f memory n (Ok (onward.Ends a)) left k → at k.frame.registers a ≢ None
       is_there a e none = let led = stepped (Ok (onward.Ends a)) e in none-some led.stepped.0 (sym none ∙ led.stepped.1)
 
-      pub returned : (a : Reg) (w : Word) → ExecutesOn holds is_over beside i (index + 1) o f memory n (Ok (onward.Ends a)) left k → at k.frame.registers a ≡ Some (value_of k.texts w)
-          → RunEnds o f (holds first m.texts) (Ok (value_of k.texts w)) (holds left k.texts)
-      returned a w e is =
+      pub returned : (a : Reg) (value : Value) → ExecutesOn holds is_over beside i (index + 1) o f memory n (Ok (onward.Ends a)) left k → at k.frame.registers a ≡ Some value
+          → RunEnds o f (holds first m.texts) (Ok value) (holds left k.texts)
+      returned a value e is =
           let led = stepped (Ok (onward.Ends a)) e in
           subst (λ v. RunEnds o f (holds first m.texts) (Ok v) (holds left k.texts)) (same_Some _ _ (sym led.stepped.1 ∙ is))
           (ends_well o f (holds first m.texts) (at_index n.frame index) (holds memory n.texts) (holds left k.texts) led.stepped.0 u.follows led.stepped.2)
@@ -65,3 +68,18 @@ module _ {M : Type 0} (holds : M → List (List ℕ) → Variables) (is_over : M
       pub failed : (fault : MachineFault) → ExecutesOn holds is_over beside i (index + 1) o f memory n (Err fault) left k → RunEnds o f (holds first m.texts) (Err fault) (holds left k.texts)
       failed fault e =
           ends_badly o f (holds first m.texts) (at_index n.frame index) k.frame (holds memory n.texts) (holds left k.texts) fault u.follows (stepped (Err fault) e).stepped
+
+      -- the run has ended, and the texts that last are left alone
+      pub rested : IsStable holds is_over → (result : Result Onward MachineFault) → ExecutesOn holds is_over beside i (index + 1) o f memory n result left k → (j : Seen) → Rests k j → (r : Result Word MachineFault)
+          → RunEnds o f (holds first m.texts) (word_result j.texts r) (holds left k.texts) → IfOk r (IsWithin j.texts) → RunsOver holds is_over beside o f first m r left j
+      rested stable result e j rests r ends within =
+          let led = stepped result e in
+          let over = (stable left k.lasting j.lasting led.over rests.more).0 in
+          let same = (stable left j.lasting k.texts over rests.among).1 in
+          record {
+            ends = subst (RunEnds o f (holds first m.texts) (word_result j.texts r)) (same ∙ ap (holds left) (sym rests.all)) ends;
+            within = within;
+            kept = subst (Keeps m.texts) (sym rests.all) (keeps_on m.texts k.lasting j.lasting (keeps_on m.texts n.lasting k.lasting u.kept led.lasting.more) rests.more);
+            ready = record { known = subst (Knows f) (sym rests.known) (led.known u.known); over = subst (is_over left) (sym rests.all) over };
+            beside = led.others ∙ u.others;
+          }

@@ -1,6 +1,6 @@
 -- What a machine holds in memory: words, of which those of texts are numbers.
-use Rattle.std.specs.Prelude.{◌≡◌, ◌<◌, ◌^◌, ℕ, List, [], ◌∷◌, length, Option, None, Some, map}
-use Rattle.std.specs.Prelude.{IfSome, option_map, slice_get, Result, Ok, Err}
+use Rattle.std.specs.Prelude.{◌≡◌, ◌<◌, ◌≤◌, ◌^◌, ℕ, List, [], ◌∷◌, length, take, map}
+use Rattle.std.specs.Prelude.{Option, None, Some, IfSome, option_map, slice_get, Result, Ok, Err}
 use Rattle.std.specs.List.{All}
 use Rattle.numbered.specs.declared.word.Word.{Word}
 use Rattle.numbered.specs.declared.word.Word.TheVariants as word
@@ -11,10 +11,11 @@ use Rattle.dif_machine.specs.declared.content.Content.TheVariants as content
 use Rattle.dif_machine.specs.Vocabulary.{Comparison, Firing, Value, Int, Text}
 use Rattle.dif_machine.specs.Frames.{Frame}
 
--- what contracts see of a machine: the texts that it has numbered, its frame, and those of a
--- firing's five texts that it has found
+-- what contracts see of a machine: the texts that it has numbered, those of them that last when a
+-- run has ended, its frame, and those of a firing's five texts that it has found
 pub record Seen : Type 0 where
   pub texts : List (List ℕ)
+  pub lasting : List (List ℕ)
   pub frame : Frame
   pub known : List (Option (List ℕ))
 
@@ -58,29 +59,31 @@ abbrev pub knows_nothing : List (Option (List ℕ))
 knows_nothing = None ∷ None ∷ None ∷ None ∷ None ∷ []
 
 -- what a machine shows that holds this
-abbrev pub seen_of : List (List ℕ) → List Content → Option Comparison → List Word
+abbrev pub seen_of : List (List ℕ) → ℕ → List Content → Option Comparison → List Word
     → List (Option ℕ) → Seen
-seen_of texts registers comparison tuple numbers = record {
+seen_of texts lasting registers comparison tuple numbers = record {
   texts = texts;
+  lasting = take lasting texts;
   frame = record {
     pc = 0;
     registers = contents texts registers;
     comparison = comparison;
     tuple = key_in texts tuple;
   };
-  known = found_of texts numbers;
+  known = found_of (take lasting texts) numbers;
 }
 
 abbrev pub AreNumbers : List (List ℕ) → List (Option ℕ) → Type 0
 AreNumbers texts numbers = All (λ found. IfSome found (λ n. n < length texts)) numbers
 
--- all numbers of a machine are those of texts
-pub record IsSound (texts : List (List ℕ)) (cells : List Content) (words : List Word)
-    (found : List (Option ℕ)) : Type 0 where
+-- all numbers of a machine are those of texts, and those that were found of texts that last
+pub record IsSound (texts : List (List ℕ)) (lasting : ℕ) (cells : List Content)
+    (words : List Word) (found : List (Option ℕ)) : Type 0 where
   pub distinct : AreDistinct texts
+  pub inside : lasting ≤ length texts
   pub registers : All (IsContentWithin texts) cells
   pub tuple : All (IsWithin texts) words
-  pub numbers : AreNumbers texts found
+  pub numbers : AreNumbers (take lasting texts) found
 
 -- the result of a run over words
 abbrev pub word_result : {E : Type 0} → List (List ℕ) → Result Word E → Result Value E

@@ -1,12 +1,13 @@
 //! Built-in variables.
 
 ghost use Rattle.std.specs.Prelude.{◌≡◌, ◌≤◌, ◌<◌, ◌-◌, IfOk, slice_index_or};
-ghost use Rattle.numbered.specs.Texts.{Keeps, text_at};
+ghost use Rattle.numbered.specs.Texts.{text_at};
 ghost use Rattle.dif_machine.specs.Machine.{IsWordOf, texts_of};
 ghost use Rattle.dif_machine.specs.Sources.{argument_of, built_ins};
-ghost use Rattle.dif_machine.specs.Steps.Found.{AreFound, FindsText};
+ghost use Rattle.dif_machine.specs.Steps.Found.{Finds, FindsText, HasFound};
 ghost use Rattle.dif_machine.specs.Vocabulary.{Value};
 
+use crate::lasting::lasting_with;
 use firings::Firing;
 use numbered::{Texts, Word};
 use std::alloc::AllocError;
@@ -18,14 +19,14 @@ pub(crate) type Numbers = [Option<u64>; 5];
 #[inline(always)]
 pub(crate) fn built_in(
     texts: &mut Texts,
+    lasting: &mut usize,
     numbers: &mut Numbers,
     firing: &Firing,
     v: u8,
 ) -> Result<Word, AllocError>
     requires there { v < 9 }
-    requires found { AreFound firing.now texts.old numbers.old }
-    ensures kept { Keeps texts.old texts.new }
-    ensures found { AreFound firing.now texts.new numbers.new }
+    requires ready { HasFound firing.now texts.old lasting.old numbers.old }
+    ensures finds { Finds firing.now texts.old lasting.old texts.new lasting.new numbers.new }
     ensures word { IfOk result (λ word. IsWordOf texts.new word
         (slice_index_or (built_ins firing.now) v (Value.Int 0))) }
 {
@@ -34,7 +35,7 @@ pub(crate) fn built_in(
         1 => Ok(Word::Int(i64::from(firing.cpu).cast_unsigned())),
         2 => Ok(Word::Int(i64::from(firing.pid).cast_unsigned())),
         3 => Ok(Word::Int(i64::from(firing.thread).cast_unsigned())),
-        _ => Ok(Word::Text(text_number(texts, numbers, firing, v)?)),
+        _ => Ok(Word::Text(text_number(texts, lasting, numbers, firing, v)?)),
     }
 }
 
@@ -42,28 +43,38 @@ pub(crate) fn built_in(
 #[inline(always)]
 fn text_number(
     texts: &mut Texts,
+    lasting: &mut usize,
     numbers: &mut Numbers,
     firing: &Firing,
     v: u8,
 ) -> Result<u64, AllocError>
     requires text { (4 ≤ v) × (v < 9) }
-    requires found { AreFound firing.now texts.old numbers.old }
-    ensures { FindsText firing.now v texts.old result texts.new numbers.new }
+    requires ready { HasFound firing.now texts.old lasting.old numbers.old }
+    ensures { FindsText firing.now v texts.old lasting.old result texts.new lasting.new
+        numbers.new }
 {
     match numbers[v as usize - 4] {
         Some(number) => Ok(number),
-        None => find(texts, numbers, firing, v),
+        None => find(texts, lasting, numbers, firing, v),
     }
 }
 
-// The same if it isn't known.
+// The same if it isn't known. The text lasts.
 #[inline(never)]
-fn find(texts: &mut Texts, numbers: &mut Numbers, firing: &Firing, v: u8) -> Result<u64, AllocError>
+fn find(
+    texts: &mut Texts,
+    lasting: &mut usize,
+    numbers: &mut Numbers,
+    firing: &Firing,
+    v: u8,
+) -> Result<u64, AllocError>
     requires text { (4 ≤ v) × (v < 9) }
-    requires found { AreFound firing.now texts.old numbers.old }
-    ensures { FindsText firing.now v texts.old result texts.new numbers.new }
+    requires ready { HasFound firing.now texts.old lasting.old numbers.old }
+    ensures { FindsText firing.now v texts.old lasting.old result texts.new lasting.new
+        numbers.new }
 {
     let number = texts.number(text(firing, v))?;
+    *lasting = lasting_with(texts, *lasting, Word::Text(number), &[]);
     numbers[v as usize - 4] = Some(number);
     Ok(number)
 }

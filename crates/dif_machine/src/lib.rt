@@ -6,6 +6,7 @@ mod comparing;
 mod content;
 mod fault;
 mod lane_memory;
+mod lasting;
 pub mod laws;
 mod machine;
 mod memory;

@@ -12,10 +12,12 @@ ghost use Rattle.dif_machine.specs.Machine.{IsContentWithin, IsWithin, IsWordOf,
 ghost use Rattle.dif_machine.specs.Machine.{key_in, knows_nothing, value_of};
 ghost use Rattle.dif_machine.specs.Memories.{LoadsWord, StoresWord};
 ghost use Rattle.dif_machine.specs.Steps.Instructions.{Grows, held_in, kind_in, set_in, with_frame};
+ghost use Rattle.dif_machine.specs.Steps.Lasting.{Lasts, Rests, restarted};
 
 use crate::built_in::{Numbers, built_in};
 use crate::comparing::Comparison;
 use crate::content::Content;
+use crate::lasting::lasting_with;
 use crate::memory::{Memory, Variable};
 use crate::tables::value_in;
 use d_values::{Value, Var, join_text};
@@ -39,8 +41,8 @@ const FIRST: [Content; 8] = [
 ];
 
 /// The registers, the comparison and the tuple, the texts that have numbers, and what was found of
-/// a firing's texts. Contracts see the texts, the frame that the words stand for, at index 0, and
-/// those of the firing's texts that were found.
+/// a firing's texts. Contracts see the texts, those of them that last when a run has ended, the
+/// frame that the words stand for, at index 0, and those of the firing's texts that were found.
 #[derive(Drop)]
 pub struct Machine {
     alloc: Global,
@@ -48,6 +50,8 @@ pub struct Machine {
     comparison: Option<Comparison>,
     tuple: Tuple,
     texts: Texts,
+    // How many texts last. Those after them were made by a run.
+    lasting: usize,
     numbers: Numbers,
 }
 
@@ -56,9 +60,9 @@ impl Model for Machine {
 
     ghost Value = { Seen };
 
-    ghost view = { λ m. seen_of m.texts m.registers m.comparison m.tuple m.numbers };
+    ghost view = { λ m. seen_of m.texts m.lasting m.registers m.comparison m.tuple m.numbers };
 
-    ghost invariant = { λ m. IsSound m.texts m.registers m.tuple m.numbers };
+    ghost invariant = { λ m. IsSound m.texts m.lasting m.registers m.tuple m.numbers };
 }
 
 impl Machine {
@@ -79,6 +83,7 @@ impl Machine {
             comparison: None,
             tuple: Tuple::new(),
             texts,
+            lasting: 1,
             numbers: [None; 5],
         })
     }
@@ -101,11 +106,50 @@ impl Machine {
     /// Before the first instruction, whatever an earlier run left.
     #[inline(always)]
     pub(crate) fn restart(&mut self)
-        ensures { self.new ≡ with_frame self.old start }
+        ensures { self.new ≡ restarted self.old }
     {
         self.registers = FIRST;
         self.comparison = None;
         self.tuple.clear();
+        self.lasting = self.texts.len();
+    }
+
+    /// Ends a run with the word that a register holds, whose text lasts.
+    #[inline(always)]
+    pub(crate) fn end(&mut self, a: Reg) -> Word
+        requires { at self.old.frame.registers a ≢ None }
+        ensures is { at self.old.frame.registers a ≡ Some (value_of self.new.texts result) }
+        ensures within { IsWithin self.new.texts result }
+        ensures rests { Rests self.old self.new }
+    {
+        let word = self.word(a);
+        if self.lasting < self.texts.len() {
+            self.lasting = lasting_with(&self.texts, self.lasting, word, &[]);
+            self.forget();
+        }
+        word
+    }
+
+    /// Forgets the texts that a run made and that nothing keeps.
+    #[inline(always)]
+    pub(crate) fn forget(&mut self)
+        ensures rests { Rests self.old self.new }
+        ensures lasting { self.new.lasting ≡ self.old.lasting }
+    {
+        if self.lasting < self.texts.len() {
+            self.forget_made();
+        }
+    }
+
+    // The same if there are such texts. Registers and the tuple may have their numbers.
+    #[cold]
+    fn forget_made(&mut self)
+        ensures rests { Rests self.old self.new }
+        ensures lasting { self.new.lasting ≡ self.old.lasting }
+    {
+        self.registers = FIRST;
+        self.tuple.clear();
+        self.texts.truncate(self.lasting);
     }
 
     /// The word that a register holds.
@@ -243,13 +287,15 @@ impl Machine {
         call(self.alloc, &mut self.texts, function, self.tuple.words())
     }
 
-    /// The word of a text.
+    /// The word of a text, which lasts.
     #[inline(never)]
     pub(crate) fn text_word(&mut self, bytes: &[u8]) -> Result<Word, AllocError>
         ensures grows { Grows self.old self.new }
         ensures word { IfOk result (λ word. IsWordOf self.new.texts word (Value.Text bytes.now)) }
     {
-        text_word(&mut self.texts, bytes)
+        let word = text_word(&mut self.texts, bytes)?;
+        self.lasting = lasting_with(&self.texts, self.lasting, word, &[]);
+        Ok(word)
     }
 
     /// The word of a built-in variable.
@@ -258,12 +304,19 @@ impl Machine {
         requires there { v < 9 }
         requires known { Knows firing.now self.old.known }
         ensures kept { Keeps self.old.texts self.new.texts }
+        ensures lasting { Lasts self.old self.new }
         ensures frame { self.new.frame ≡ self.old.frame }
         ensures known { Knows firing.now self.new.known }
         ensures word { IfOk result (λ word. IsWordOf self.new.texts word
             (slice_index_or (built_ins firing.now) v (Value.Int 0))) }
     {
-        built_in(&mut self.texts, &mut self.numbers, firing, v)
+        built_in(
+            &mut self.texts,
+            &mut self.lasting,
+            &mut self.numbers,
+            firing,
+            v,
+        )
     }
 
     /// The word of what a variable holds.
@@ -275,8 +328,7 @@ impl Machine {
     ) -> Result<Word, AllocError>
         requires { M.is_over memory.old self.old.texts }
         ensures grows { Grows self.old self.new }
-        ensures loads { LoadsWord M.holds M.is_over M.beside memory.old self.old.texts
-            memory.new self.new.texts result
+        ensures loads { LoadsWord memory.old self.old.texts memory.new self.new.texts result
             (held_in (M.holds memory.old self.old.texts) variable self.old.frame.tuple) }
     {
         match variable {
@@ -295,8 +347,8 @@ impl Machine {
     ) -> Result<Word, AllocError>
         requires { M.is_over memory.old self.old.texts }
         ensures grows { Grows self.old self.new }
-        ensures loads { LoadsWord M.holds M.is_over M.beside memory.old self.old.texts
-            memory.new self.new.texts result (local_in (M.holds memory.old self.old.texts) x) }
+        ensures loads { LoadsWord memory.old self.old.texts memory.new self.new.texts result
+            (local_in (M.holds memory.old self.old.texts) x) }
     {
         memory.load_local(&mut self.texts, x)
     }
@@ -312,8 +364,7 @@ impl Machine {
         requires over { M.is_over memory.old self.old.texts }
         requires within { IsWithin self.old.texts key }
         ensures known { self.new.known ≡ self.old.known }
-        ensures loads { LoadsWord M.holds M.is_over M.beside memory.old self.old.texts
-            memory.new self.new.texts result
+        ensures loads { LoadsWord memory.old self.old.texts memory.new self.new.texts result
             (own_value (M.holds memory.old self.old.texts) x (key_in self.old.texts (key ∷ []))) }
     {
         self.tuple.clear();
@@ -321,25 +372,39 @@ impl Machine {
         memory.load_own(&mut self.texts, x, &self.tuple)
     }
 
-    /// Stores a word in a variable.
+    /// Stores a word in a variable. Its text lasts, and so do those of the key.
     #[inline(always)]
     pub(crate) fn store<M: Memory>(
-        &self,
+        &mut self,
         memory: &mut M,
         variable: Variable,
         word: Word,
     ) -> Result<(), AllocError>
-        requires over { M.is_over memory.old self.now.texts }
-        requires within { IsWithin self.now.texts word }
-        requires kind { kind_of (value_of self.now.texts word) ≡ kind_in variable }
-        ensures { StoresWord M.holds M.is_over M.beside memory.old self.now.texts memory.new result
-            (set_in (M.holds memory.old self.now.texts) variable self.now.frame.tuple
-            (value_of self.now.texts word)) }
+        requires over { M.is_over memory.old self.old.texts }
+        requires within { IsWithin self.old.texts word }
+        requires kind { kind_of (value_of self.old.texts word) ≡ kind_in variable }
+        ensures grows { Grows self.old self.new }
+        ensures texts { self.new.texts ≡ self.old.texts }
+        ensures over { M.is_over memory.old self.old.lasting
+            → M.is_over memory.new self.new.lasting }
+        ensures stores { StoresWord M.holds M.beside memory.old self.old.texts memory.new result
+            (set_in (M.holds memory.old self.old.texts) variable self.old.frame.tuple
+            (value_of self.old.texts word)) }
     {
         match variable {
-            Variable::Local(x) => memory.store_local(&self.texts, x, word),
-            Variable::Scalar(x) => memory.store_own(&self.texts, x, &Tuple::new(), word),
-            Variable::Element(x) => memory.store_own(&self.texts, x, &self.tuple, word),
+            Variable::Local(x) => {
+                self.lasting = lasting_with(&self.texts, self.lasting, word, &[]);
+                memory.store_local(&self.texts, x, word)
+            }
+            Variable::Scalar(x) => {
+                self.lasting = lasting_with(&self.texts, self.lasting, word, &[]);
+                memory.store_own(&self.texts, x, &Tuple::new(), word)
+            }
+            Variable::Element(x) => {
+                let key = self.tuple.words();
+                self.lasting = lasting_with(&self.texts, self.lasting, word, key);
+                memory.store_own(&self.texts, x, &self.tuple, word)
+            }
         }
     }
 }

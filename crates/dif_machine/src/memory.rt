@@ -1,10 +1,10 @@
 //! Where variables are.
 
-ghost use Rattle.std.specs.Prelude.{◌≡◌};
+ghost use Rattle.std.specs.Prelude.{◌≡◌, [], ◌∷◌};
 ghost use Rattle.std.specs.List.{All};
 ghost use Rattle.numbered.specs.Texts.{AreDistinct};
 ghost use Rattle.dif_machine.specs.Machine.{IsWithin, key_in, value_of};
-ghost use Rattle.dif_machine.specs.Memories.{LoadsWord, StoresWord};
+ghost use Rattle.dif_machine.specs.Memories.{LoadsWord, StaysOver, StoresWord};
 ghost use Rattle.dif_machine.specs.Sources.{local_in, own_value};
 ghost use Rattle.dif_machine.specs.Vocabulary.{kind_of, set_local, set_own};
 
@@ -30,7 +30,7 @@ pub trait Memory {
     /// The word of what a variable of the clause holds.
     fn load_local(&mut self, texts: &mut Texts, x: Var) -> Result<Word, AllocError>
         requires { is_over self.old texts.old }
-        ensures { LoadsWord holds is_over beside self.old texts.old self.new texts.new result
+        ensures { LoadsWord self.old texts.old self.new texts.new result
             (local_in (holds self.old texts.old) x) };
 
     /// Gives a variable of the clause a value of its kind.
@@ -38,7 +38,8 @@ pub trait Memory {
         requires over { is_over self.old texts.now }
         requires within { IsWithin texts.now word }
         requires kind { kind_of (value_of texts.now word) ≡ x.kind }
-        ensures { StoresWord holds is_over beside self.old texts.now self.new result
+        ensures over { StaysOver is_over self.old (word ∷ []) self.new }
+        ensures stores { StoresWord holds beside self.old texts.now self.new result
             (set_local (holds self.old texts.now) x (value_of texts.now word)) };
 
     /// The word of what a variable of the thread holds at a key, which is empty for a scalar.
@@ -46,7 +47,7 @@ pub trait Memory {
         requires over { is_over self.old texts.old }
         requires distinct { AreDistinct texts.old }
         requires within { All (IsWithin texts.old) key.now }
-        ensures { LoadsWord holds is_over beside self.old texts.old self.new texts.new result
+        ensures { LoadsWord self.old texts.old self.new texts.new result
             (own_value (holds self.old texts.old) x (key_in texts.old key.now)) };
 
     /// Gives a variable of the thread a value of its kind, at a key.
@@ -62,7 +63,8 @@ pub trait Memory {
         requires keyed { All (IsWithin texts.now) key.now }
         requires within { IsWithin texts.now word }
         requires kind { kind_of (value_of texts.now word) ≡ x.kind }
-        ensures { StoresWord holds is_over beside self.old texts.now self.new result
+        ensures over { StaysOver is_over self.old (word ∷ key.now) self.new }
+        ensures stores { StoresWord holds beside self.old texts.now self.new result
             (set_own (holds self.old texts.now) x (key_in texts.now key.now)
             (value_of texts.now word)) };
 

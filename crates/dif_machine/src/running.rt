@@ -38,8 +38,11 @@ fn run_to_end<M: Memory>(
         let instr = &difo.code[index];
         match execute(difo, firing, instr, index + 1, machine, memory) {
             Ok(Onward::Goes(next)) => index = next,
-            Ok(Onward::Ends(register)) => return Ok(machine.word(register)),
-            Err(fault) => return Err(fault),
+            Ok(Onward::Ends(register)) => return Ok(machine.end(register)),
+            Err(fault) => {
+                machine.forget();
+                return Err(fault);
+            }
         }
     }
 }

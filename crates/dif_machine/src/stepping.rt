@@ -8,7 +8,7 @@ mod variables;
 
 ghost use Rattle.std.specs.Prelude.{◌≡◌, ◌≢◌, ◌+◌, ℕ};
 ghost use Rattle.dif_machine.specs.Semantics.{act, Stuck};
-ghost use Rattle.dif_machine.specs.{Frames.at_index, Memories.IsReady};
+ghost use Rattle.dif_machine.specs.{Frames.at_index, Machine.Knows, Memories.IsRunning};
 ghost use Rattle.dif_machine.specs.Steps.Instructions.{ExecutesOn};
 ghost use Rattle.dif_machine.specs.Vocabulary.{object_of};
 
@@ -31,7 +31,8 @@ pub(crate) fn execute<M: Memory>(
     requires runs { (index : ℕ) × (next ≡ index + 1) × (act instr.now (object_of difo.now)
         firing.now (at_index machine.old.frame index) (M.holds memory.old machine.old.texts)
         ≢ Stuck) }
-    requires ready { IsReady M.is_over firing.now memory.old machine.old }
+    requires known { Knows firing.now machine.old.known }
+    requires running { IsRunning M.is_over memory.old machine.old }
     ensures { ExecutesOn M.holds M.is_over M.beside instr.now next (object_of difo.now)
         firing.now memory.old machine.old result memory.new machine.new }
 {

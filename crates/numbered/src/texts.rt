@@ -1,6 +1,6 @@
 //! Texts, each with a number.
 
-ghost use Rattle.std.specs.Prelude.{◌≡◌, ◌≤◌, ◌+◌, [], ◌∷◌, IfOk, IfSome, length};
+ghost use Rattle.std.specs.Prelude.{◌≡◌, ◌≤◌, ◌+◌, [], ◌∷◌, IfOk, IfSome, length, take};
 ghost use Rattle.d_values.specs.Stores.{lent_value};
 ghost use Rattle.numbered.specs.Texts.{AreDistinct, IsNumberOf, Numbers, text_at};
 ghost use Rattle.numbered.specs.Words.{value_of};
@@ -100,6 +100,29 @@ impl Texts {
         let text = Text::from_slice(*self.texts.allocator(), bytes)?;
         let (index, _) = self.texts.insert_full(text)?;
         Ok(index)
+    }
+
+    /// How many texts have numbers.
+    ///
+    /// ```text
+    /// texts.len() // 1, if no other text was met but the empty one
+    /// ```
+    #[inline(always)]
+    pub fn len(&self) -> usize
+        ensures { result ≡ length self.now }
+    {
+        self.texts.len()
+    }
+
+    /// Forgets the texts from this number on.
+    ///
+    /// ```text
+    /// texts.truncate(1); // the empty text alone has a number
+    /// ```
+    pub fn truncate(&mut self, len: usize)
+        ensures { self.new ≡ take len self.old }
+    {
+        self.texts.truncate(len);
     }
 
     /// The text of a number: the empty one if no text has it.

@@ -1,6 +1,6 @@
 -- What was found of a firing's texts.
-use Rattle.std.specs.Prelude.{◌≡◌, ◌<◌, ◌-◌, ℕ, List, Option, Result, IfOk, length}
-use Rattle.numbered.specs.Texts.{Keeps, text_at}
+use Rattle.std.specs.Prelude.{◌≡◌, ◌<◌, ◌≤◌, ◌-◌, ℕ, List, Option, Result, IfOk, length, take}
+use Rattle.numbered.specs.Texts.{AreDistinct, Keeps, text_at}
 use Rattle.dif_machine.specs.Vocabulary.{Firing}
 use Rattle.dif_machine.specs.Machine.{AreNumbers, Knows, found_of, texts_of}
 
@@ -9,10 +9,24 @@ pub record AreFound (f : Firing) (texts : List (List ℕ)) (found : List (Option
   pub known : Knows f (found_of texts found)
   pub numbers : AreNumbers texts found
 
--- the number of a built-in variable that is a text was found, or memory was refused
-pub record FindsText {E : Type 0} (f : Firing) (v : ℕ) (old : List (List ℕ)) (result : Result ℕ E)
-    (texts : List (List ℕ)) (numbers : List (Option ℕ)) : Type 0 where
+-- of texts that last, some of the firing's were found
+pub record HasFound (f : Firing) (texts : List (List ℕ)) (lasting : ℕ) (numbers : List (Option ℕ))
+    : Type 0 where
+  pub distinct : AreDistinct texts
+  pub inside : lasting ≤ length texts
+  pub found : AreFound f (take lasting texts) numbers
+
+-- texts may be more, and so may those that last and those of the firing's that were found
+pub record Finds (f : Firing) (old : List (List ℕ)) (before : ℕ) (texts : List (List ℕ))
+    (lasting : ℕ) (numbers : List (Option ℕ)) : Type 0 where
   pub kept : Keeps old texts
-  pub found : AreFound f texts numbers
+  pub least : before ≤ lasting
+  pub has : HasFound f texts lasting numbers
+
+-- the number of a built-in variable that is a text was found, or memory was refused
+pub record FindsText {E : Type 0} (f : Firing) (v : ℕ) (old : List (List ℕ)) (before : ℕ)
+    (result : Result ℕ E) (texts : List (List ℕ)) (lasting : ℕ) (numbers : List (Option ℕ))
+    : Type 0 where
+  pub finds : Finds f old before texts lasting numbers
   pub number : IfOk result (λ n. text_at (texts_of f) (v - 4) ≡ text_at texts n)
   pub within : IfOk result (λ n. n < length texts)

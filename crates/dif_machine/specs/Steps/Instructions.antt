@@ -8,6 +8,7 @@ use Rattle.dif_machine.specs.Frames.{Frame, at_index}
 use Rattle.dif_machine.specs.Machine.{Knows, Seen}
 use Rattle.dif_machine.specs.Semantics.{Next, Stuck, act}
 use Rattle.dif_machine.specs.Sources.{local_in, own_value}
+use Rattle.dif_machine.specs.Steps.Lasting.{Lasts}
 use Rattle.dif_machine.specs.Steps.Semantics.{Stepped}
 use Rattle.dif_machine.specs.declared.memory.Variable.{Variable}
 use Rattle.dif_machine.specs.declared.memory.Variable.TheVariants.{Local, Scalar, Element}
@@ -17,11 +18,12 @@ use Rattle.dif_machine.specs.declared.onward.Onward.{Onward}
 
 -- another frame, and all else as it was
 abbrev pub with_frame : Seen → Frame → Seen
-with_frame m s = record { texts = m.texts; frame = s; known = m.known }
+with_frame m s = record { texts = m.texts; lasting = m.lasting; frame = s; known = m.known }
 
 -- texts may be more, and all else is as it was
 pub record Grows (m n : Seen) : Type 0 where
   pub kept : Keeps m.texts n.texts
+  pub lasting : Lasts m n
   pub frame : n.frame ≡ m.frame
   pub known : n.known ≡ m.known
 
@@ -66,6 +68,7 @@ CanExecute i next s =
 pub record ExecutesFor (i : Instr) (next : ℕ) (o : Object) (f : Firing) (m : Seen)
     (result : Result Onward MachineFault) (n : Seen) : Type 0 where
   pub kept : Keeps m.texts n.texts
+  pub lasting : Keeps m.lasting m.texts → Lasts m n
   pub known : Knows f m.known → Knows f n.known
   pub stepped : (index : ℕ) → next ≡ index + 1 → (vars : Variables)
       → Stepped vars (act i o f (at_index m.frame index) vars) result n.frame vars
@@ -79,9 +82,9 @@ pub record LeadsTo {M : Type 0} (holds : M → List (List ℕ) → Variables)
     (is_over : M → List (List ℕ) → Type 0) (beside : M → List ℕ → ℕ) (f : Firing) (memory : M)
     (m : Seen) (result : Result Onward MachineFault) (left : M) (n : Seen) (next : Next)
     : Type 0 where
-  pub kept : Keeps m.texts n.texts
+  pub lasting : Lasts m n
   pub known : Knows f m.known → Knows f n.known
-  pub over : is_over left n.texts
+  pub over : is_over left n.lasting
   pub others : beside left ≡ beside memory
   pub stepped : Stepped (holds memory m.texts) next result n.frame (holds left n.texts)
 

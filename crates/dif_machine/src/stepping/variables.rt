@@ -1,5 +1,6 @@
 //! Instructions that load and store variables.
 
+ghost use Rattle.dif_machine.specs.Memories.{IsRunning};
 ghost use Rattle.dif_machine.specs.Vocabulary.{Firing as Recorded, Object};
 ghost use Rattle.dif_machine.specs.Steps.Instructions.{CanExecute, ExecutesOn, load_of, store_of};
 
@@ -18,7 +19,7 @@ pub(super) fn load<M: Memory>(
     next: usize,
 ) -> Step
     requires can { CanExecute (load_of variable d) next machine.old.frame }
-    requires over { M.is_over memory.old machine.old.texts }
+    requires running { IsRunning M.is_over memory.old machine.old }
     ensures { (o : Object) (f : Recorded) → ExecutesOn M.holds M.is_over M.beside
         (load_of variable d) next o f memory.old machine.old result memory.new machine.new }
 {
@@ -37,7 +38,7 @@ pub(super) fn store<M: Memory>(
     next: usize,
 ) -> Step
     requires can { CanExecute (store_of variable a) next machine.old.frame }
-    requires over { M.is_over memory.old machine.old.texts }
+    requires running { IsRunning M.is_over memory.old machine.old }
     ensures { (o : Object) (f : Recorded) → ExecutesOn M.holds M.is_over M.beside
         (store_of variable a) next o f memory.old machine.old result memory.new machine.new }
 {

@@ -1,9 +1,8 @@
-use Rattle.std.specs.Prelude.{◌≡◌, Some, slice_get}
+use Rattle.std.specs.Prelude.{◌≡◌, Err, Some, slice_get}
 use Rattle.std.proofs.Common.{◌<◌, ◌∙◌, arith, length, refl}
 use Rattle.std.proofs.lemmas.Option.{slice_get_read}
 use Rattle.dif_validate.specs.Objects.{object_of}
-use Rattle.dif_machine.proofs.Holding.{keeps_on}
-use Rattle.dif_machine.proofs.Underway.{begins, failed, goes_on, is_there, returned, runs}
+use Rattle.dif_machine.proofs.Underway.{begins, failed, goes_on, is_there, rested, returned, runs}
 use Rattle.dif_machine.proofs.running.run_to_end.Given.{Over}
 use Rattle.dif_machine.proofs.running.run_to_end.Goals.{After-index-instr}
 use Rattle.dif_machine.proofs.running.run_to_end.Goals as goal
@@ -22,23 +21,18 @@ index-instr-requires g c =
 pub execute-requires : goal.execute-requires
 execute-requires g c = record {
   runs = (c.loop-next.index, refl, runs g.M.Memory.holds g.M.Memory.is_over g.M.Memory.beside (object_of c.args.difo.now) c.args.firing.now c.args.memory.now c.args.machine.now c.loop-next.index c.loop-next.memory c.loop-next.machine c.loop-next.invariant c.index-instr.result.now (there g (goal.at.execute-requires g c).After-index-instr));
-  ready = record { known = c.loop-next.invariant.known; over = c.loop-next.invariant.over };
+  known = c.loop-next.invariant.known;
+  running = c.loop-next.invariant.running;
 }
 
-pub word-requires : goal.word-requires
-word-requires g c = is_there g.M.Memory.holds g.M.Memory.is_over g.M.Memory.beside (object_of c.args.difo.now) c.args.firing.now c.args.memory.now c.args.machine.now c.loop-next.index c.loop-next.memory c.loop-next.machine c.loop-next.invariant c.index-instr.result.now (there g (goal.at.word-requires g c).After-index-instr) _ _ _ (rw c.in-Ok-Ends.field-0-is at c.in-Ok-Ends.ensures)
+pub end-requires : goal.end-requires
+end-requires g c = is_there g.M.Memory.holds g.M.Memory.is_over g.M.Memory.beside (object_of c.args.difo.now) c.args.firing.now c.args.memory.now c.args.machine.now c.loop-next.index c.loop-next.memory c.loop-next.machine c.loop-next.invariant c.index-instr.result.now (there g (goal.at.end-requires g c).After-index-instr) _ _ _ (rw c.in-Ok-Ends.field-0-is at c.in-Ok-Ends.ensures)
 
 pub returns-in-Ok-Ends : goal.returns-in-Ok-Ends
 returns-in-Ok-Ends g c =
     let there = (there g (goal.at.returns-in-Ok-Ends g c).After-index-instr) in
-    let last = (rw c.in-Ok-Ends.field-0-is at c.in-Ok-Ends.ensures) c.loop-next.index refl in
-    record {
-      ends = returned g.M.Memory.holds g.M.Memory.is_over g.M.Memory.beside (object_of c.args.difo.now) c.args.firing.now c.args.memory.now c.args.machine.now c.loop-next.index c.loop-next.memory c.loop-next.machine c.loop-next.invariant c.index-instr.result.now there _ _ _ _ (rw c.in-Ok-Ends.field-0-is at c.in-Ok-Ends.ensures) c.word.ensures.is;
-      within = c.word.ensures.within;
-      kept = keeps_on _ _ _ c.loop-next.invariant.kept last.kept;
-      ready = record { known = last.known c.loop-next.invariant.known; over = last.over };
-      beside = last.others ∙ c.loop-next.invariant.others;
-    }
+    let executes = (rw c.in-Ok-Ends.field-0-is at c.in-Ok-Ends.ensures) in
+    rested g.M.Memory.holds g.M.Memory.is_over g.M.Memory.beside (object_of c.args.difo.now) c.args.firing.now c.args.memory.now c.args.machine.now c.loop-next.index c.loop-next.memory c.loop-next.machine c.loop-next.invariant c.index-instr.result.now there _ _ g.met.M.Memory.stays _ executes _ c.end.ensures.rests _ (returned g.M.Memory.holds g.M.Memory.is_over g.M.Memory.beside (object_of c.args.difo.now) c.args.firing.now c.args.memory.now c.args.machine.now c.loop-next.index c.loop-next.memory c.loop-next.machine c.loop-next.invariant c.index-instr.result.now there _ _ _ _ executes c.end.ensures.is) c.end.ensures.within
 
 pub loop-next-preserved : goal.loop-next-preserved
 loop-next-preserved g c = (goes_on g.M.Memory.holds g.M.Memory.is_over g.M.Memory.beside (object_of c.args.difo.now) c.args.firing.now c.args.memory.now c.args.machine.now c.loop-next.index c.loop-next.memory c.loop-next.machine c.loop-next.invariant c.index-instr.result.now (there g (goal.at.loop-next-preserved g c).After-index-instr) _ _ _ (rw c.in-Ok-Goes.field-0-is at c.in-Ok-Goes.ensures)).1
@@ -46,14 +40,7 @@ loop-next-preserved g c = (goes_on g.M.Memory.holds g.M.Memory.is_over g.M.Memor
 pub returns-in-Err : goal.returns-in-Err
 returns-in-Err g c =
     let there = (there g (goal.at.returns-in-Err g c).After-index-instr) in
-    let last = c.in-Err.ensures c.loop-next.index refl in
-    record {
-      ends = failed g.M.Memory.holds g.M.Memory.is_over g.M.Memory.beside (object_of c.args.difo.now) c.args.firing.now c.args.memory.now c.args.machine.now c.loop-next.index c.loop-next.memory c.loop-next.machine c.loop-next.invariant c.index-instr.result.now there _ _ _ c.in-Err.ensures;
-      within = tt;
-      kept = keeps_on _ _ _ c.loop-next.invariant.kept last.kept;
-      ready = record { known = last.known c.loop-next.invariant.known; over = last.over };
-      beside = last.others ∙ c.loop-next.invariant.others;
-    }
+    rested g.M.Memory.holds g.M.Memory.is_over g.M.Memory.beside (object_of c.args.difo.now) c.args.firing.now c.args.memory.now c.args.machine.now c.loop-next.index c.loop-next.memory c.loop-next.machine c.loop-next.invariant c.index-instr.result.now there _ _ g.met.M.Memory.stays _ c.in-Err.ensures _ c.forget.ensures.rests (Err c.in-Err.fault) (failed g.M.Memory.holds g.M.Memory.is_over g.M.Memory.beside (object_of c.args.difo.now) c.args.firing.now c.args.memory.now c.args.machine.now c.loop-next.index c.loop-next.memory c.loop-next.machine c.loop-next.invariant c.index-instr.result.now there _ _ c.in-Err.fault c.in-Err.ensures) tt
 
 pub loop-next-smaller : goal.loop-next-smaller
 loop-next-smaller g c =

@@ -8,7 +8,7 @@ use Rattle.dif_machine.specs.Steps.Instructions.{CanExecute, ExecutesFor, Execut
 use Rattle.dif_machine.specs.Vocabulary.{Firing, Flushts, Instr, Int, Ldga, MachineFault, Object, Reg, Text, Variables, object_of}
 use Rattle.dif_machine.specs.declared.onward.Onward.{Onward}
 use Rattle.dif_machine.proofs.Acting.{number_fits, only_array, ret_there, text_fits}
-use Rattle.dif_machine.proofs.Executing.{executed, goes, inside, on_memory}
+use Rattle.dif_machine.proofs.Executing.{executed, goes, inside, on_memory, still_lasts}
 use Rattle.dif_machine.proofs.Holding.{keeps_refl}
 use Rattle.dif_machine.proofs.stepping.execute.Given.{Over}
 use Rattle.dif_machine.proofs.stepping.execute.Goals.{Start}
@@ -45,7 +45,7 @@ module _ (g : Over) (c : Start g) where
       → ExecutesOn g.M.Memory.holds g.M.Memory.is_over g.M.Memory.beside c.args.instr.now c.args.next o f c.args.memory.now c.args.machine.now result c.args.memory.now n
   was i is result n e =
       on_memory g.M.Memory.holds g.M.Memory.is_over g.M.Memory.beside o f c.args.memory.now c.args.machine.now c.args.next c.args.instr.now i is result c.args.memory.now n
-      (executed g.M.Memory.holds g.M.Memory.is_over g.M.Memory.beside o f c.args.memory.now c.args.machine.now g.met.M.Memory.stays c.args.next i result n c.requires.ready.over e)
+      (executed g.M.Memory.holds g.M.Memory.is_over g.M.Memory.beside o f c.args.memory.now c.args.machine.now g.met.M.Memory.stays c.args.next i result n c.requires.running e)
 
 pub alu-requires : goal.alu-requires
 alu-requires g c = can g (goal.at.alu-requires g c).Start _ c.in-Alu.is
@@ -96,10 +96,10 @@ pub returns-in-Call : goal.returns-in-Call
 returns-in-Call g c = was g (goal.at.returns-in-Call g c).Start _ c.in-Call.is _ _ (c.call.ensures _ _)
 
 pub returns-in-Ba : goal.returns-in-Ba
-returns-in-Ba g c = was g (goal.at.returns-in-Ba g c).Start _ c.in-Ba.is _ _ (record { kept = keeps_refl _; known = λ k. k; stepped = λ index is_next vars. refl })
+returns-in-Ba g c = was g (goal.at.returns-in-Ba g c).Start _ c.in-Ba.is _ _ (record { kept = keeps_refl _; lasting = still_lasts _ _ refl refl; known = λ k. k; stepped = λ index is_next vars. refl })
 
 pub returns-in-Nop : goal.returns-in-Nop
-returns-in-Nop g c = was g (goal.at.returns-in-Nop g c).Start _ c.in-Nop.is _ _ (record { kept = keeps_refl _; known = λ k. k; stepped = λ index is_next vars. sym (λ j. Goes (at_index c.args.machine.now.frame (is_next j)) vars) })
+returns-in-Nop g c = was g (goal.at.returns-in-Nop g c).Start _ c.in-Nop.is _ _ (record { kept = keeps_refl _; lasting = still_lasts _ _ refl refl; known = λ k. k; stepped = λ index is_next vars. sym (λ j. Goes (at_index c.args.machine.now.frame (is_next j)) vars) })
 
 pub returns-in-Flushts : goal.returns-in-Flushts
 returns-in-Flushts g c = was g (goal.at.returns-in-Flushts g c).Start _ c.in-Flushts.is _ _ (goes Flushts _ _ _ _ _ _ c.flush.ensures (λ index is_next vars. refl))
@@ -108,7 +108,7 @@ pub returns-in-Ret : goal.returns-in-Ret
 returns-in-Ret g c =
     let s = (goal.at.returns-in-Ret g c).Start in
     let value = ret_there (o g s) (f g s) (frame g s) (vars g s) c.in-Ret.a (runs g s _ c.in-Ret.is) in
-    was g s _ c.in-Ret.is _ _ (record { kept = keeps_refl _; known = λ k. k; stepped = λ index is_next vars. (value.0, value.1, ap (λ x. on x (λ value. Ends value vars)) value.1) })
+    was g s _ c.in-Ret.is _ _ (record { kept = keeps_refl _; lasting = still_lasts _ _ refl refl; known = λ k. k; stepped = λ index is_next vars. (value.0, value.1, ap (λ x. on x (λ value. Ends value vars)) value.1) })
 
 pub pushtr-requires : goal.pushtr-requires
 pushtr-requires g c = let s = (goal.at.pushtr-requires g c).Start in record { can = can g s _ c.in-Pushtr.is; room = text_fits (o g s) (f g s) (frame g s) (vars g s) _ (runs g s _ c.in-Pushtr.is) }
@@ -135,7 +135,7 @@ pub returns-in-Sets : goal.returns-in-Sets
 returns-in-Sets g c = was g (goal.at.returns-in-Sets g c).Start _ c.in-Sets.is _ _ (c.sets.ensures _)
 
 pub ldgs-requires : goal.ldgs-requires
-ldgs-requires g c = let s = (goal.at.ldgs-requires g c).Start in record { known = c.requires.ready.known; there = inside (built_ins (f g s)) c.in-Ldgs.v (λ value. puts (frame g s) c.in-Ldgs.d value (vars g s)) (runs g s _ c.in-Ldgs.is) }
+ldgs-requires g c = let s = (goal.at.ldgs-requires g c).Start in record { known = c.requires.known; there = inside (built_ins (f g s)) c.in-Ldgs.v (λ value. puts (frame g s) c.in-Ldgs.d value (vars g s)) (runs g s _ c.in-Ldgs.is) }
 
 pub returns-in-Ldgs : goal.returns-in-Ldgs
 returns-in-Ldgs g c = was g (goal.at.returns-in-Ldgs g c).Start _ c.in-Ldgs.is _ _ (c.ldgs.ensures _)
@@ -147,37 +147,37 @@ pub returns-in-Ldga : goal.returns-in-Ldga
 returns-in-Ldga g c = let s = (goal.at.returns-in-Ldga g c).Start in was g s _ (one_array g s _ _ _ c.in-Ldga.is) _ _ (c.ldga.ensures _)
 
 pub load-requires : goal.load-requires
-load-requires g c = record { can = can g (goal.at.load-requires g c).Start _ c.in-Ldts.is; over = c.requires.ready.over }
+load-requires g c = record { can = can g (goal.at.load-requires g c).Start _ c.in-Ldts.is; running = c.requires.running }
 
 pub returns-in-Ldts : goal.returns-in-Ldts
 returns-in-Ldts g c = variable_was g (goal.at.returns-in-Ldts g c).Start _ c.in-Ldts.is _ _ _ c.load.ensures
 
 pub store-requires : goal.store-requires
-store-requires g c = record { can = can g (goal.at.store-requires g c).Start _ c.in-Stts.is; over = c.requires.ready.over }
+store-requires g c = record { can = can g (goal.at.store-requires g c).Start _ c.in-Stts.is; running = c.requires.running }
 
 pub returns-in-Stts : goal.returns-in-Stts
 returns-in-Stts g c = variable_was g (goal.at.returns-in-Stts g c).Start _ c.in-Stts.is _ _ _ c.store.ensures
 
 pub load-requires-in-Ldls : goal.load-requires-in-Ldls
-load-requires-in-Ldls g c = record { can = can g (goal.at.load-requires-in-Ldls g c).Start _ c.in-Ldls.is; over = c.requires.ready.over }
+load-requires-in-Ldls g c = record { can = can g (goal.at.load-requires-in-Ldls g c).Start _ c.in-Ldls.is; running = c.requires.running }
 
 pub returns-in-Ldls : goal.returns-in-Ldls
 returns-in-Ldls g c = variable_was g (goal.at.returns-in-Ldls g c).Start _ c.in-Ldls.is _ _ _ c.load-in-Ldls.ensures
 
 pub store-requires-in-Stls : goal.store-requires-in-Stls
-store-requires-in-Stls g c = record { can = can g (goal.at.store-requires-in-Stls g c).Start _ c.in-Stls.is; over = c.requires.ready.over }
+store-requires-in-Stls g c = record { can = can g (goal.at.store-requires-in-Stls g c).Start _ c.in-Stls.is; running = c.requires.running }
 
 pub returns-in-Stls : goal.returns-in-Stls
 returns-in-Stls g c = variable_was g (goal.at.returns-in-Stls g c).Start _ c.in-Stls.is _ _ _ c.store-in-Stls.ensures
 
 pub load-requires-in-Ldtaa : goal.load-requires-in-Ldtaa
-load-requires-in-Ldtaa g c = record { can = can g (goal.at.load-requires-in-Ldtaa g c).Start _ c.in-Ldtaa.is; over = c.requires.ready.over }
+load-requires-in-Ldtaa g c = record { can = can g (goal.at.load-requires-in-Ldtaa g c).Start _ c.in-Ldtaa.is; running = c.requires.running }
 
 pub returns-in-Ldtaa : goal.returns-in-Ldtaa
 returns-in-Ldtaa g c = variable_was g (goal.at.returns-in-Ldtaa g c).Start _ c.in-Ldtaa.is _ _ _ c.load-in-Ldtaa.ensures
 
 pub store-requires-in-Sttaa : goal.store-requires-in-Sttaa
-store-requires-in-Sttaa g c = record { can = can g (goal.at.store-requires-in-Sttaa g c).Start _ c.in-Sttaa.is; over = c.requires.ready.over }
+store-requires-in-Sttaa g c = record { can = can g (goal.at.store-requires-in-Sttaa g c).Start _ c.in-Sttaa.is; running = c.requires.running }
 
 pub returns-in-Sttaa : goal.returns-in-Sttaa
 returns-in-Sttaa g c = variable_was g (goal.at.returns-in-Sttaa g c).Start _ c.in-Sttaa.is _ _ _ c.store-in-Sttaa.ensures

@@ -21,9 +21,7 @@ returns c =
     let word = c.of.ensures ∙ ap (word_of x.kind) is in
     record {
       kept = keeps_refl texts;
-      over = rw c.get-bits.ensures.same c.requires.over;
       same = first_of (search rules, cc, grind (arith, common_steps));
-      beside = first_of (search rules, cc, grind (arith, common_steps));
       word = record {
         is = ap (value_of texts) word ∙ as_it_is texts x.kind (word_in table (cell_key thread x key))
             ∙ ap (λ ws. as_kind x.kind (value_of texts (word_of x.kind (word_in table (cell_key thread x ws))))) (sym (parts_words texts c.requires.distinct key c.requires.within));

@@ -7,7 +7,7 @@ use Rattle.dif_machine.proofs.Holding.{grown}
 use Rattle.dif_machine.proofs.machine.Machine.call.Goals as goal
 
 pub returns-clause-grows : goal.returns-clause-grows
-returns-clause-grows c = grown _ _ c.call.ensures.kept _ _ _ _ _ c.self.invariant c.self.view_is
+returns-clause-grows c = grown _ _ c.call.ensures.kept _ _ _ _ _ _ c.self.invariant c.self.view_is
 
 pub returns-clause-word : goal.returns-clause-word
 returns-clause-word c =

@@ -7,6 +7,6 @@ use Rattle.dif_machine.proofs.machine.Machine.load_local.Goals as goal
 
 pub returns : goal.returns
 returns g c = record {
-  grows = grown _ _ c.load_local.ensures.kept _ _ _ _ _ c.self.invariant c.self.view_is;
-  loads = subst (λ (s : Seen). LoadsWord g.M.Memory.holds g.M.Memory.is_over g.M.Memory.beside c.args.memory.now s.texts c.load_local.new.self c.load_local.new.texts c.load_local.result (local_in (g.M.Memory.holds c.args.memory.now s.texts) c.args.x)) c.self.view_is c.load_local.ensures;
+  grows = grown _ _ c.load_local.ensures.kept _ _ _ _ _ _ c.self.invariant c.self.view_is;
+  loads = subst (λ (s : Seen). LoadsWord c.args.memory.now s.texts c.load_local.new.self c.load_local.new.texts c.load_local.result (local_in (g.M.Memory.holds c.args.memory.now s.texts) c.args.x)) c.self.view_is c.load_local.ensures;
 }

@@ -1,10 +1,10 @@
-use Rattle.std.proofs.Common.{sym, ◌∙◌}
+use Rattle.std.proofs.Common.{subst, sym, ◌∙◌}
 use Rattle.dif_machine.specs.Frames.{at_index}
+use Rattle.dif_machine.specs.Machine.{Knows}
 use Rattle.dif_machine.specs.Semantics.{Goes}
 use Rattle.dif_machine.specs.Steps.Instructions.{store_of}
 use Rattle.dif_machine.proofs.Acting.{stored_kind, stored_there, stores}
 use Rattle.dif_machine.proofs.Executing.{can_here}
-use Rattle.dif_machine.proofs.Holding.{keeps_refl}
 use Rattle.dif_machine.proofs.stepping.variables.store.Goals as goal
 
 pub word-word-requires : goal.word-word-requires
@@ -17,14 +17,19 @@ store-requires-clause-kind g c =
     let can = c.requires.can in
     stored_kind (at_index c.args.machine.now.frame can.3) can.2 can.2 can.0 can.0 can.1 can.1 c.args.variable c.args.a _ can.5 c.word-word.ensures.is
 
+pub store-requires-clause-over : goal.store-requires-clause-over
+store-requires-clause-over g c = (g.met.M.Memory.stays c.args.memory.now c.args.machine.now.lasting c.args.machine.now.texts c.requires.running.over c.requires.running.among).0
+
 pub returns : goal.returns
 returns g c = λ o f index is_next.
     let here = can_here (store_of c.args.variable c.args.a) c.args.next c.args.machine.now.frame c.requires.can index is_next in
     let acts = stores (at_index c.args.machine.now.frame index) here.2 (g.M.Memory.holds c.args.memory.now c.args.machine.now.texts) here.0 o here.1 f c.args.variable c.args.a _ here.3 c.word-word.ensures.is in
+    let grows = c.store.ensures.grows in
+    let holds = (λ j. g.M.Memory.holds c.store.new.memory (c.store.ensures.texts j)) ∙ c.in_ok-store.ensures.stores.ok in
     record {
-      kept = keeps_refl _;
-      known = λ k. k;
-      over = c.store.ensures.over;
-      others = c.store.ensures.beside;
-      stepped = acts ∙ sym (λ j. Goes (at_index c.args.machine.now.frame (is_next j)) (c.in_ok-store.ensures.ok j));
+      lasting = record { more = grows.lasting.more; among = grows.lasting.among };
+      known = subst (Knows f) (sym grows.known);
+      over = c.store.ensures.over c.requires.running.over;
+      others = c.store.ensures.stores.beside;
+      stepped = acts ∙ sym (λ j. Goes (at_index (grows.frame j) (is_next j)) (holds j));
     }
