@@ -499,8 +499,15 @@ VARIABLES = {
         30_000,
         100,
         lambda size: trace_of(size, program="{0:08}"),
-        lambda size: of_hit(each(64, 'strlen(strjoin(execname,"{0:02}"));')),
+        lambda size: of_hit(each(64, 'strjoin(execname,"{0:02}");')),
         more=lambda size: {"numbered text": 65 * size, "byte of a numbered text": 648 * size},
+    ),
+    "joined texts": Form(
+        30_000,
+        100,
+        lambda size: trace_of(size, program="{0:08}"),
+        lambda size: of_hit(each(64, 'strlen(strjoin(execname,"{0:02}"));')),
+        more=lambda size: {"numbered text": size, "byte of a numbered text": 8 * size},
     ),
 }
 FORMS = {**TRACES, **SCRIPTS, **DESCRIPTIONS, **AGGREGATIONS, **VARIABLES}
