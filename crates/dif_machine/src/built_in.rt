@@ -35,31 +35,14 @@ pub(crate) fn built_in(
         1 => Ok(Word::Int(i64::from(firing.cpu).cast_unsigned())),
         2 => Ok(Word::Int(i64::from(firing.pid).cast_unsigned())),
         3 => Ok(Word::Int(i64::from(firing.thread).cast_unsigned())),
-        _ => Ok(Word::Text(text_number(texts, lasting, numbers, firing, v)?)),
+        _ => match numbers[v as usize - 4] {
+            Some(number) => Ok(Word::Text(number)),
+            None => Ok(Word::Text(find(texts, lasting, numbers, firing, v)?)),
+        },
     }
 }
 
-// The number of a built-in variable that is a text.
-#[inline(always)]
-fn text_number(
-    texts: &mut Texts,
-    lasting: &mut usize,
-    numbers: &mut Numbers,
-    firing: &Firing,
-    v: u8,
-) -> Result<u64, AllocError>
-    requires text { (4 ≤ v) × (v < 9) }
-    requires ready { HasFound firing.now texts.old lasting.old numbers.old }
-    ensures { FindsText firing.now v texts.old lasting.old result texts.new lasting.new
-        numbers.new }
-{
-    match numbers[v as usize - 4] {
-        Some(number) => Ok(number),
-        None => find(texts, lasting, numbers, firing, v),
-    }
-}
-
-// The same if it isn't known. The text lasts.
+// The number of a built-in variable that is a text, and that isn't known. The text lasts.
 #[inline(never)]
 fn find(
     texts: &mut Texts,

@@ -10,36 +10,29 @@ use numbered::{Texts, Word};
 /// How many texts last, if those of a word and of a key's words are among them.
 #[inline(always)]
 pub(crate) fn lasting_with(texts: &Texts, lasting: usize, word: Word, key: &[Word]) -> usize
-    requires within { IsWithin texts.now word }
-    requires keyed { All (IsWithin texts.now) key.now }
+    requires within { All (IsWithin texts.now) (word ∷ key.now) }
     requires inside { lasting ≤ length texts.now }
     ensures { LastsWith texts.now lasting (word ∷ key.now) result }
 {
-    if lasting == texts.len() {
-        lasting
-    } else {
-        lasting_with_made(texts, lasting, word, key)
-    }
-}
-
-// The same if there are texts that don't last.
-#[cold]
-fn lasting_with_made(texts: &Texts, lasting: usize, word: Word, key: &[Word]) -> usize
-    requires within { IsWithin texts.now word }
-    requires keyed { All (IsWithin texts.now) key.now }
-    requires inside { lasting ≤ length texts.now }
-    ensures { LastsWith texts.now lasting (word ∷ key.now) result }
-{
-    for part in key {
-        if is_made(*part, lasting) {
-            return texts.len();
-        }
-    }
-    if is_made(word, lasting) {
+    if lasting < texts.len() && is_one_made(word, key, lasting) {
         texts.len()
     } else {
         lasting
     }
+}
+
+// If a word or one of a key is the number of a text that doesn't last.
+#[cold]
+fn is_one_made(word: Word, key: &[Word], lasting: usize) -> bool
+    ensures { IsFalse result → (texts : List (List ℕ)) → All (IsWithin texts) (word ∷ key.now)
+        → lasting ≤ length texts → All (IsWithin (take lasting texts)) (word ∷ key.now) }
+{
+    for part in key {
+        if is_made(*part, lasting) {
+            return true;
+        }
+    }
+    is_made(word, lasting)
 }
 
 // If a word is the number of a text that doesn't last.

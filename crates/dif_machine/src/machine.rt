@@ -130,20 +130,10 @@ impl Machine {
         word
     }
 
-    /// Forgets the texts that a run made and that nothing keeps.
-    #[inline(always)]
-    pub(crate) fn forget(&mut self)
-        ensures rests { Rests self.old self.new }
-        ensures lasting { self.new.lasting ≡ self.old.lasting }
-    {
-        if self.lasting < self.texts.len() {
-            self.forget_made();
-        }
-    }
-
-    // The same if there are such texts. Registers and the tuple may have their numbers.
+    /// Forgets the texts that a run made and that nothing keeps. Registers and the tuple may have
+    /// their numbers.
     #[cold]
-    fn forget_made(&mut self)
+    pub(crate) fn forget(&mut self)
         ensures rests { Rests self.old self.new }
         ensures lasting { self.new.lasting ≡ self.old.lasting }
     {

@@ -1,6 +1,6 @@
 use Rattle.std.specs.Prelude.{◌≤◌, [], length}
 use Rattle.std.proofs.Common.{◌-◌, arith, rules, sym, take, ◌∙◌}
-use Rattle.std.proofs.lemmas.List.Elements.{All-head}
+use Rattle.std.proofs.lemmas.List.Elements.{All-cons, All-head, All-nil}
 use Rattle.numbered.specs.declared.word.Word.TheVariants.{Text}
 use Rattle.dif_machine.specs.Machine.{IsWithin}
 use Rattle.dif_machine.proofs.Knowing.{found_more, found_still}
@@ -8,7 +8,9 @@ use Rattle.dif_machine.proofs.Holding.{first_kept, keeps_refl, number_still, num
 use Rattle.dif_machine.proofs.built_in.find.Goals as goal
 
 pub lasting_with-requires-clause-within : goal.lasting_with-requires-clause-within
-lasting_with-requires-clause-within c = number_within c.number.new.self _ _ c.in_ok-number.ensures.number
+lasting_with-requires-clause-within c =
+    let P = IsWithin c.number.new.self in
+    All-cons P (Text c.in_ok-number.number) [] (number_within c.number.new.self _ _ c.in_ok-number.ensures.number) (All-nil P)
 
 pub returns-in_err-number : goal.returns-in_err-number
 returns-in_err-number c =
