@@ -170,15 +170,6 @@ impl Machine {
         }
     }
 
-    /// The bytes of the text that a register holds.
-    pub(crate) fn text(&self, a: Reg) -> &[u8]
-        requires set { at self.now.frame.registers a ≢ None }
-        requires text { (n : ℕ) → at self.now.frame.registers a ≢ Some (Value.Int n) }
-        ensures { at self.now.frame.registers a ≡ Some (Value.Text result.now) }
-    {
-        self.texts.text(self.text_number(a))
-    }
-
     /// The number of the text that a register holds.
     #[inline(always)]
     pub(crate) fn text_number(&self, a: Reg) -> u64

@@ -36,7 +36,10 @@ pub(super) fn scmp(machine: &mut Machine, a: Reg, b: Reg, next: usize) -> Step
     requires { CanExecute (Scmp a b) next machine.old.frame }
     ensures { Executes (Scmp a b) next machine.old result machine.new }
 {
-    let known = compare_texts(machine.text(a), machine.text(b));
+    let texts = machine.texts();
+    let left = texts.text(machine.text_number(a));
+    let right = texts.text(machine.text_number(b));
+    let known = compare_texts(left, right);
     machine.compare(known);
     Ok(Onward::Goes(next))
 }
