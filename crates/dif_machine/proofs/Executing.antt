@@ -11,8 +11,7 @@ use Rattle.dif_machine.specs.Machine.{IsWordOf, Knows, Seen, value_of}
 use Rattle.dif_machine.specs.Semantics.{Goes, Next, Stuck, act, on}
 use Rattle.dif_machine.specs.Steps.Instructions.{CanExecute, ExecutesFor, ExecutesOn, Grows}
 use Rattle.dif_machine.specs.Steps.Instructions.{LeadsTo, with_frame}
-use Rattle.dif_machine.specs.Memories.{IsRunning}
-use Rattle.dif_machine.specs.Steps.Lasting.{Lasts}
+use Rattle.dif_machine.specs.Steps.Lasting.{IsRunning, Lasts}
 use Rattle.dif_machine.specs.Steps.Semantics.{Stepped}
 use Rattle.dif_machine.specs.declared.onward.Onward.{Onward}
 use Rattle.dif_machine.specs.declared.onward.Onward.TheVariants as onward

@@ -10,9 +10,9 @@ use Rattle.dif_machine.specs.Frames.{at_index, start}
 use Rattle.dif_machine.specs.Machine.{IsWithin, Knows, Seen, word_result}
 use Rattle.dif_machine.specs.Runs.{RunEnds}
 use Rattle.dif_machine.specs.Semantics.{Stuck, act, on, step_of}
-use Rattle.dif_machine.specs.Memories.{IsRunning, RunsOver}
+use Rattle.dif_machine.specs.Memories.{RunsOver}
 use Rattle.dif_machine.specs.Steps.Instructions.{ExecutesOn, LeadsTo}
-use Rattle.dif_machine.specs.Steps.Lasting.{Rests, restarted}
+use Rattle.dif_machine.specs.Steps.Lasting.{IsRunning, Rests, restarted}
 use Rattle.dif_machine.specs.declared.onward.Onward.{Onward}
 use Rattle.dif_machine.specs.declared.onward.Onward.TheVariants as onward
 use Rattle.dif_machine.proofs.Executing.{IsStable}

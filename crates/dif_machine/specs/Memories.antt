@@ -34,12 +34,6 @@ pub record IsReady {M : Type 0} (is_over : M → List (List ℕ) → Type 0) (f 
   pub known : Knows f m.known
   pub over : is_over memory m.texts
 
--- in a run, the texts that last are those of a memory
-pub record IsRunning {M : Type 0} (is_over : M → List (List ℕ) → Type 0) (memory : M) (m : Seen)
-    : Type 0 where
-  pub over : is_over memory m.lasting
-  pub among : Keeps m.lasting m.texts
-
 -- an object ran over a machine and a memory, and left them ready, with a word of the texts; texts
 -- may be more, and what the memory has beside stays
 pub record RunsOver {M : Type 0} (holds : M → List (List ℕ) → Variables)

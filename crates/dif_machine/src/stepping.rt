@@ -8,7 +8,7 @@ mod variables;
 
 ghost use Rattle.std.specs.Prelude.{◌≡◌, ◌≢◌, ◌+◌, ℕ};
 ghost use Rattle.dif_machine.specs.Semantics.{act, Stuck};
-ghost use Rattle.dif_machine.specs.{Frames.at_index, Machine.Knows, Memories.IsRunning};
+ghost use Rattle.dif_machine.specs.{Frames.at_index, Machine.Knows, Steps.Lasting.IsRunning};
 ghost use Rattle.dif_machine.specs.Steps.Instructions.{ExecutesOn};
 ghost use Rattle.dif_machine.specs.Vocabulary.{object_of};
 

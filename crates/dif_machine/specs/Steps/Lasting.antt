@@ -28,3 +28,9 @@ pub record Rests (m n : Seen) : Type 0 where
   pub more : Keeps m.lasting n.lasting
   pub among : Keeps n.lasting m.texts
   pub known : n.known ≡ m.known
+
+-- in a run, the texts that last are those of a memory
+pub record IsRunning {M : Type 0} (is_over : M → List (List ℕ) → Type 0) (memory : M) (m : Seen)
+    : Type 0 where
+  pub over : is_over memory m.lasting
+  pub among : Keeps m.lasting m.texts

@@ -1,6 +1,6 @@
 //! Instructions that load and store variables.
 
-ghost use Rattle.dif_machine.specs.Memories.{IsRunning};
+ghost use Rattle.dif_machine.specs.Steps.Lasting.{IsRunning};
 ghost use Rattle.dif_machine.specs.Vocabulary.{Firing as Recorded, Object};
 ghost use Rattle.dif_machine.specs.Steps.Instructions.{CanExecute, ExecutesOn, load_of, store_of};
 
