@@ -4,14 +4,11 @@ use Rattle.std.specs.Prelude.{◌-ℤ◌, Bool, true, false, if◌then◌else◌
 use Rattle.std.proofs.Common.{refl, sym, ap, ◌∙◌, arith}
 use Rattle.std.proofs.lemmas.Bool.Decides.{nat_tests}
 use Rattle.std.proofs.lemmas.Int.{ints}
-use Rattle.std.specs.Int.{cast_signed, w64}
-use Rattle.std.specs.Ordering.{nat_cmp, int_cmp}
+use Rattle.d_values.specs.Vocabulary.{cast_signed, w64, nat_cmp, int_cmp, IntType}
+use Rattle.d_values.specs.Vocabulary.{ArithmeticOperator, ShiftOperator}
 use Rattle.d_values.specs.Words.{narrow, operate, shift_result, difference_of, shift_of, order_of}
 use Rattle.d_values.specs.Numbers.{number_of, read, bits_of, modulo, wrap, whole_of, whole_shift_of}
-use Rattle.d_values.specs.declared.int_type.IntType.{IntType}
-use Rattle.d_values.specs.declared.operators.ArithmeticOperator.{ArithmeticOperator}
 use Rattle.d_values.specs.declared.operators.ArithmeticOperator.TheVariants.{Subtract}
-use Rattle.d_values.specs.declared.operators.ShiftOperator.{ShiftOperator}
 use Rattle.d_values.proofs.Residues.{bits_of-read, operated, moved}
 use Rattle.d_values.proofs.Wrapping.{number-narrow, modulo-width}
 

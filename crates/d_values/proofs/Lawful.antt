@@ -14,9 +14,7 @@ use Rattle.d_values.specs.Stores.{with_local, with_own}
 use Rattle.d_values.specs.Variables.{same_var, same_var_decides}
 use Rattle.d_values.specs.Keys.{same_key}
 use Rattle.d_values.specs.KeyLaws.{same_key_decides}
-use Rattle.d_values.specs.declared.int_type.IntType.{IntType}
-use Rattle.d_values.specs.declared.key.KeyPart.{KeyPart}
-use Rattle.d_values.specs.declared.variable.Var.{Var}
+use Rattle.d_values.specs.Vocabulary.{IntType, KeyPart, Var}
 use Rattle.d_values.proofs.Wrapping.{typed_plain, typed_low, typed_high, sizes}
 
 modulo_below : (z : ℤ) (m : ℕ) → 0 < m → modulo z m < m

@@ -12,12 +12,11 @@ use Rattle.std.proofs.Math.Nat.{div-le_self, mod-le}
 use Rattle.std.proofs.Math.Facts.{to_z-neg}
 use Rattle.d_values.specs.Numbers.{bits_of, read, whole_of, whole_shift_of}
 use Rattle.d_values.specs.Words.{operate, shift_result, sum_of, difference_of}
-use Rattle.d_values.specs.declared.operators.ArithmeticOperator.{ArithmeticOperator}
+use Rattle.d_values.specs.Vocabulary.{ArithmeticOperator, ShiftOperator}
 use Rattle.d_values.specs.declared.operators.ArithmeticOperator.TheVariants.{Multiply, Divide}
 use Rattle.d_values.specs.declared.operators.ArithmeticOperator.TheVariants.{Remainder, Add}
 use Rattle.d_values.specs.declared.operators.ArithmeticOperator.TheVariants.{Subtract, BitAnd}
 use Rattle.d_values.specs.declared.operators.ArithmeticOperator.TheVariants.{BitXor, BitOr}
-use Rattle.d_values.specs.declared.operators.ShiftOperator.{ShiftOperator}
 use Rattle.d_values.specs.declared.operators.ShiftOperator.TheVariants.{Left, Right}
 
 pub cast_signed-high : (a : ℕ) → 2 ^ 63 ≤ a → a < 2 ^ 64 → cast_signed w64 a ≡ negsuc (2 ^ 64 - suc a)

@@ -7,14 +7,11 @@ use Rattle.std.specs.Map.{lookup, lookup_key, values_of}
 use Rattle.indexmap.specs.Layout.{set_value_at}
 use Rattle.std.proofs.lemmas.Map.Made.{lookup_key_same}
 use Rattle.std.proofs.lemmas.Option.{slice_get-map}
-use Rattle.d_values.specs.declared.key.KeyPart.{KeyPart}
-use Rattle.d_values.specs.declared.value.Kind.{Kind}
+use Rattle.d_values.specs.Vocabulary.{KeyPart, Kind, Value, Var}
 use Rattle.d_values.specs.declared.value.Kind.TheVariants as k
-use Rattle.d_values.specs.declared.value.Value.{Value}
 use Rattle.d_values.specs.declared.value.Value.TheVariants.{Int, Text}
 use Rattle.std.proofs.lemmas.Bool.Decides.{Decides-eqb}
 use Rattle.d_values.specs.declared.held.Held.{Held}
-use Rattle.d_values.specs.declared.variable.Var.{Var}
 use Rattle.d_values.specs.Keys.{same_key}
 use Rattle.d_values.specs.Variables.{same_var, same_var_decides}
 use Rattle.d_values.specs.Stores.{Locals, Own, kind_of, blank, is_blank, value_to_keep, local_entry}

@@ -2,7 +2,7 @@
 use Rattle.std.specs.Prelude.{◌≡◌, ◌≢◌, ℕ, suc, ◌+◌, ◌-◌, ◌*◌, ◌%◌, ◌^◌, ◌<◌, ◌≤◌, ℤ, pos}
 use Rattle.std.specs.Prelude.{negsuc, ◌-ℤ◌, true, false}
 use Rattle.std.proofs.Common.{refl, sym, ap, ◌∙◌, arith, inl, inr, subst}
-use Rattle.std.specs.Int.{cast_signed, w64}
+use Rattle.d_values.specs.Vocabulary.{cast_signed, w64, IntType}
 use Rattle.std.proofs.lemmas.Bool.{cases_lt, cases_eq}
 use Rattle.std.proofs.lemmas.Bool.Decides.{nat_tests}
 use Rattle.std.proofs.lemmas.Int.{ints, to_z_pos}
@@ -10,7 +10,6 @@ use Rattle.std.proofs.lemmas.Nat.{mod_below, pow_pos}
 use Rattle.d_values.specs.Widths.{is_width}
 use Rattle.d_values.specs.Words.{sign_extension, narrow}
 use Rattle.d_values.specs.Numbers.{number_of, read, modulo, bits_of, number_of_bits, wrap}
-use Rattle.d_values.specs.declared.int_type.IntType.{IntType}
 use Rattle.d_values.proofs.Residues.{cast_signed-high}
 use Rattle.d_values.proofs.Narrowing.{extended_high, extended_low, extended_plain}
 

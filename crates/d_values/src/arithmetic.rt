@@ -43,47 +43,27 @@ impl ArithmeticOperator {
     }
 }
 
-// The operator's result in 64 bits.
+// The operator's result in 64 bits. A quotient is cut toward zero.
 fn operate(op: ArithmeticOperator, signed: bool, a: u64, b: u64) -> u64
     requires { divides op ≡ true → b ≢ 0 }
     ensures { result ≡ operate op signed a b }
 {
     match op {
         ArithmeticOperator::Multiply => a.wrapping_mul(b),
-        ArithmeticOperator::Divide => quotient(signed, a, b),
-        ArithmeticOperator::Remainder => remainder(signed, a, b),
+        ArithmeticOperator::Divide if signed => {
+            let whole = a.cast_signed().wrapping_div(b.cast_signed());
+            whole.cast_unsigned()
+        }
+        ArithmeticOperator::Divide => a / b,
+        ArithmeticOperator::Remainder if signed => {
+            let rest = a.cast_signed().wrapping_rem(b.cast_signed());
+            rest.cast_unsigned()
+        }
+        ArithmeticOperator::Remainder => a % b,
         ArithmeticOperator::Add => a.wrapping_add(b),
         ArithmeticOperator::Subtract => a.wrapping_sub(b),
         ArithmeticOperator::BitAnd => a & b,
         ArithmeticOperator::BitXor => a ^ b,
         ArithmeticOperator::BitOr => a | b,
-    }
-}
-
-// Cut toward zero.
-fn quotient(signed: bool, a: u64, b: u64) -> u64
-    requires { b ≢ 0 }
-    ensures { result ≡ operate ArithmeticOperator.Divide signed a b }
-{
-    if signed {
-        a.cast_signed()
-            .wrapping_div(b.cast_signed())
-            .cast_unsigned()
-    } else {
-        a / b
-    }
-}
-
-// What is left of a division that cuts toward zero.
-fn remainder(signed: bool, a: u64, b: u64) -> u64
-    requires { b ≢ 0 }
-    ensures { result ≡ operate ArithmeticOperator.Remainder signed a b }
-{
-    if signed {
-        a.cast_signed()
-            .wrapping_rem(b.cast_signed())
-            .cast_unsigned()
-    } else {
-        a % b
     }
 }

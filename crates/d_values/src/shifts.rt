@@ -37,18 +37,8 @@ fn shift_word(op: ShiftOperator, signed: bool, a: u64, count: u32) -> u64
 {
     match op {
         ShiftOperator::Left => a.wrapping_shl(count),
-        ShiftOperator::Right => shift_word_right(signed, a, count),
-    }
-}
-
-// To the right, with copies of the sign or with zeros.
-fn shift_word_right(signed: bool, a: u64, count: u32) -> u64
-    requires { count < 64 }
-    ensures { result ≡ shift_result ShiftOperator.Right signed a count }
-{
-    if signed {
-        (a.cast_signed() >> count).cast_unsigned()
-    } else {
-        a >> count
+        // Copies of the sign come from the left, or zeros.
+        ShiftOperator::Right if signed => (a.cast_signed() >> count).cast_unsigned(),
+        ShiftOperator::Right => a >> count,
     }
 }
