@@ -1,17 +1,16 @@
 -- What each instruction makes of a state, from what its call read.
 use Rattle.std.specs.Prelude.{◌≡◌, ◌≢◌, ◌<◌, ℕ, zero, suc, ◌+◌, ◌++◌, Bool, true, false}
 use Rattle.std.specs.Prelude.{List, [], ◌∷◌, length, nat_lt, Option, Some, None}
-use Rattle.std.specs.Int.{cast_signed, w64}
 use Rattle.std.proofs.Common.{refl, sym, ap, ◌∙◌, cond}
 use Rattle.std.proofs.lemmas.Bool.{ltb-true}
 use Rattle.d_values.specs.Keys.{part_of}
 use Rattle.numbered.specs.declared.word.Word.{Word}
-use Rattle.dif_machine.specs.Vocabulary.{Firing, Pushtr, Pushtv, KeyPart, Number, Name, Kind, Ldga}
+use Rattle.dif_machine.specs.Vocabulary.{Firing, KeyPart, Kind, Ldga}
 use Rattle.dif_machine.specs.Vocabulary.{NumberKind, TextKind, Object, Reg, Ret, at, Value, Int, Text}
 use Rattle.dif_machine.specs.Vocabulary.{Variables, kind_of}
 use Rattle.dif_machine.specs.Frames.{Frame, at_index, with_tuple, with_value}
 use Rattle.dif_machine.specs.Machine.{IsWordOf, value_of}
-use Rattle.dif_machine.specs.Semantics.{Next, Ends, Goes, Stuck, on, on_number, on_text, on_kind, on_key}
+use Rattle.dif_machine.specs.Semantics.{Next, Ends, Goes, Stuck, on, on_kind, on_key}
 use Rattle.dif_machine.specs.Semantics.{puts, pushes, act}
 use Rattle.dif_machine.specs.Steps.Instructions.{held_in, kind_in, load_of, set_in, store_of}
 use Rattle.dif_machine.specs.declared.memory.Variable.{Variable}
@@ -90,23 +89,25 @@ module _ (s : Frame) (some vars : Variables) (p o : Object) (g f : Firing) where
 
   -- ---- pushes, of the kind that the instruction says
 
-  pub pushes_text : (a : Reg) (value : Value) → act (Pushtr a) p g s some ≢ Stuck → at s.registers a ≡ Some value → act (Pushtr a) o f s vars ≡ Goes (with_tuple s (s.tuple ++ part_of value ∷ [])) vars
-  pushes_text a value runs there =
-      ap (λ v. on_text v (λ bytes. pushes s (Name bytes) vars)) there
-      ∙ by value (λ h. runs (ap (λ v. on_text v (λ bytes. pushes s (Name bytes) some)) there ∙ h))
-    where
-      by : (v : Value) → on_text (Some v) (λ bytes. pushes s (Name bytes) some) ≢ Stuck → on_text (Some v) (λ bytes. pushes s (Name bytes) vars) ≡ Goes (with_tuple s (s.tuple ++ part_of v ∷ [])) vars
-      by (Int n) runs = absurd (runs refl)
-      by (Text x) runs = fits_8 (nat_lt (length s.tuple) 8) (Goes (with_tuple s (s.tuple ++ Name x ∷ [])) some) _ runs
+  abbrev pushing : Kind → Reg → Variables → Next
+  pushing k a vars = on_kind k (at s.registers a) (λ value. pushes s (part_of value) vars)
 
-  pub pushes_number : (a : Reg) (value : Value) → act (Pushtv a) p g s some ≢ Stuck → at s.registers a ≡ Some value → act (Pushtv a) o f s vars ≡ Goes (with_tuple s (s.tuple ++ part_of value ∷ [])) vars
-  pushes_number a value runs there =
-      ap (λ v. on_number v (λ n. pushes s (Number (cast_signed w64 n)) vars)) there
-      ∙ by value (λ h. runs (ap (λ v. on_number v (λ n. pushes s (Number (cast_signed w64 n)) some)) there ∙ h))
-    where
-      by : (v : Value) → on_number (Some v) (λ n. pushes s (Number (cast_signed w64 n)) some) ≢ Stuck → on_number (Some v) (λ n. pushes s (Number (cast_signed w64 n)) vars) ≡ Goes (with_tuple s (s.tuple ++ part_of v ∷ [])) vars
-      by (Text x) runs = absurd (runs refl)
-      by (Int n) runs = fits_8 (nat_lt (length s.tuple) 8) (Goes (with_tuple s (s.tuple ++ Number (cast_signed w64 n) ∷ [])) some) _ runs
+  module _ (k : Kind) (a : Reg) (value : Value) (runs : pushing k a some ≢ Stuck) (there : at s.registers a ≡ Some value) where
+    pushed : on_kind k (Some value) (λ value. pushes s (part_of value) some) ≢ Stuck
+    pushed h = runs (ap (λ v. on_kind k v (λ value. pushes s (part_of value) some)) there ∙ h)
+
+    free : pushes s (part_of value) some ≢ Stuck
+    free h = pushed (kind_is k value _ (λ value. pushes s (part_of value) some) pushed ∙ h)
+
+    -- a push that isn't stuck has room
+    pub fits : length s.tuple < 8
+    fits = room (nat_lt (length s.tuple) 8) (length s.tuple) (Goes (with_tuple s (s.tuple ++ part_of value ∷ [])) some) refl free
+
+    pub pushes_part : pushing k a vars ≡ Goes (with_tuple s (s.tuple ++ part_of value ∷ [])) vars
+    pushes_part =
+        ap (λ v. on_kind k v (λ value. pushes s (part_of value) vars)) there
+        ∙ kind_is k value _ (λ value. pushes s (part_of value) vars) pushed
+        ∙ fits_8 (nat_lt (length s.tuple) 8) (Goes (with_tuple s (s.tuple ++ part_of value ∷ [])) some) _ free
 
 module _ (o : Object) (f : Firing) (s : Frame) (vars : Variables) where
   -- the one array of arguments
@@ -121,20 +122,3 @@ module _ (o : Object) (f : Firing) (s : Frame) (vars : Variables) where
       by : (v : Option Value) → at s.registers a ≡ v → (value : Value) × (at s.registers a ≡ Some value)
       by None e = absurd (runs (ap (λ v. on v (λ value. Ends value vars)) e))
       by (Some value) e = (value, e)
-
-  -- a push that isn't stuck has room
-  pub text_fits : (a : Reg) → act (Pushtr a) o f s vars ≢ Stuck → length s.tuple < 8
-  text_fits a runs = by (at s.registers a) runs
-    where
-      by : (v : Option Value) → on_text v (λ bytes. pushes s (Name bytes) vars) ≢ Stuck → length s.tuple < 8
-      by None runs = absurd (runs refl)
-      by (Some (Int n)) runs = absurd (runs refl)
-      by (Some (Text x)) runs = room (nat_lt (length s.tuple) 8) (length s.tuple) _ refl runs
-
-  pub number_fits : (a : Reg) → act (Pushtv a) o f s vars ≢ Stuck → length s.tuple < 8
-  number_fits a runs = by (at s.registers a) runs
-    where
-      by : (v : Option Value) → on_number v (λ n. pushes s (Number (cast_signed w64 n)) vars) ≢ Stuck → length s.tuple < 8
-      by None runs = absurd (runs refl)
-      by (Some (Text x)) runs = absurd (runs refl)
-      by (Some (Int n)) runs = room (nat_lt (length s.tuple) 8) (length s.tuple) _ refl runs

@@ -19,12 +19,12 @@ use Rattle.d_values.specs.Stores.{kind_of, with_own}
 use Rattle.d_values.specs.Texts.{same_text, same_text_decides}
 use Rattle.d_values.specs.Variables.{same_var, same_var_decides, variable_number}
 use Rattle.d_values.specs.declared.value.Kind.TheVariants as kind
-use Rattle.numbered.specs.Tables.{Entries, key_of, word_in, with_word, same_words}
+use Rattle.numbered.specs.Tables.{Entries, word_in, with_word, same_words}
 use Rattle.numbered.specs.Texts.{AreDistinct, text_at}
 use Rattle.numbered.specs.Words.{bits_of, word_of}
 use Rattle.numbered.specs.declared.word.Word.{Word}
 use Rattle.numbered.specs.declared.word.Word.TheVariants as word
-use Rattle.numbered.proofs.Indices.{same_words_decides}
+use Rattle.std.specs.Cmp.Lexicographic.{bytes_decides}
 use Rattle.dif_machine.specs.Vocabulary.{cast_signed, cast_unsigned, w64, Kind, KeyPart, Number, Name, Var}
 use Rattle.dif_machine.specs.Machine.{IsWithin, key_in, value_of}
 use Rattle.numbered.specs.Shapes.{shape_of}
@@ -54,9 +54,6 @@ keys_same t u x y a b few e =
     let vars : variable_number x ≡ variable_number y = omega (arith, cells, first, second) in
     let shapes : shape_of a ≡ shape_of b = omega (arith, cells, first, second) in
     (one_variable x.slot y.slot x.kind y.kind vars, (digits_same 1 1 a b bits shapes).1)
-
-pub key_is : (thread : ℕ) (x : Var) (key : List Word) (cell : ℕ) (words : List Word) → cell ≡ cell_of x key → words ≡ key → key_of thread cell words ≡ cell_key thread x key
-key_is thread x key cell words e f = ap (λ n. key_of thread n words) e ∙ ap (key_of thread (cell_of x key)) f
 
 -- ---- words and the parts of keys
 
@@ -109,7 +106,7 @@ module _ (texts : List (List ℕ)) (old new : Entries) (thread : ℕ) (x : Var) 
   now_is : (P : ℕ → Type 0) (key : List ℕ) → (cell ≡ key → P (bits_of w)) → ((cell ≡ key → ⊥) → P (word_in old key)) → P (word_in new key)
   now_is P key here elsewhere =
       subst (λ f. P (f key)) (sym set)
-      (cond_both (same_words cell key) (bits_of w) (word_in old key) P (λ e. here ((same_words_decides cell key).0 e)) (λ e. elsewhere (not_from_Decides _ (same_words_decides cell key) e)))
+      (cond_both (same_words cell key) (bits_of w) (word_in old key) P (λ e. here ((bytes_decides cell key).0 e)) (λ e. elsewhere (not_from_Decides _ (bytes_decides cell key) e)))
 
   pub table_set : IsTableOver texts new
   table_set = record {
@@ -175,6 +172,6 @@ beside_set old new thread x words bits set = λ i key. is key i
     is (other ∷ key) = elim (other == thread) as (λ b. (other == thread) ≡ b → (if b then 0 else word_in new (other ∷ key)) ≡ (if b then 0 else word_in old (other ∷ key))) [
       | true ↦ λ e. refl
       | false ↦ λ e. ap (λ (words : List ℕ → ℕ). words (other ∷ key)) set ∙ cond-false _ bits (word_in old (other ∷ key)) (false_from_ne_true _ (λ s.
-          let one : cell_key thread x words ≡ other ∷ key = (same_words_decides (cell_key thread x words) (other ∷ key)).0 s in
+          let one : cell_key thread x words ≡ other ∷ key = (bytes_decides (cell_key thread x words) (other ∷ key)).0 s in
           eqb-false other thread e (sym (ap (λ l. get_or l 0 0) one))))
     ] refl

@@ -1,17 +1,12 @@
 -- Runs end, each in one way.
 use Rattle.std.specs.Prelude.{Some, ◌≡◌, ◌≤◌, ◌<◌, ℕ, zero, suc, ◌+◌, length}
 use Rattle.std.proofs.Common.{refl, sym, ◌∙◌, subst, arith}
-use Rattle.d_values.specs.Stores.{kind_of}
-use Rattle.d_values.specs.declared.value.Value.{Value}
-use Rattle.dif_validate.specs.Returns.{return_kind}
-use Rattle.firings.specs.declared.firing.Firing.{Firing}
-use Rattle.dif_validate.specs.Objects.{Object}
-use Rattle.dif_validate.specs.Validity.{IsValid}
+use Rattle.dif_machine.specs.Vocabulary.{kind_of, Value, return_kind, Firing, Object, IsValid}
+use Rattle.dif_machine.specs.Vocabulary.{Variables}
 use Rattle.dif_machine.specs.Frames.{Frame}
 use Rattle.dif_machine.specs.Frames as frames
 use Rattle.dif_machine.specs.Runs.{End, Returns, Divides, Reaches, ends, faults, goes, steps}
 use Rattle.dif_machine.specs.Runs.{IsOver, Runs}
-use Rattle.d_values.specs.Storage.{Variables}
 use Rattle.dif_machine.specs.Semantics.{Next, Goes, Ends, Faults, Stuck, step_of}
 use Rattle.dif_machine.proofs.Progress.{Reached, Onward, progress, start_reached}
 

@@ -4,14 +4,10 @@ use Rattle.std.specs.Prelude.{length, Option, Some, None, slice_index_or, slice_
 use Rattle.std.proofs.Common.{refl, sym, ap, ◌∙◌, subst, ⊎_elim, arith}
 use Rattle.std.proofs.lemmas.Bool.{cases_eq, or_parts}
 use Rattle.std.proofs.lemmas.List.{get_or-set_same, get_or-set_other}
-use Rattle.d_values.specs.Stores.{kind_of}
-use Rattle.d_values.specs.declared.key.KeyPart.{KeyPart}
-use Rattle.d_values.specs.declared.value.Kind.{Kind}
+use Rattle.dif_machine.specs.Vocabulary.{kind_of, KeyPart, Kind, Value, Reg, Comparison}
 use Rattle.d_values.specs.declared.value.Kind.TheVariants.{Number, Text}
-use Rattle.d_values.specs.declared.value.Value.{Value}
 use Rattle.d_values.specs.declared.value.Value.TheVariants as va
 use Rattle.dif_validate.specs.declared.row.Asks.TheVariants.{Any, One, Two}
-use Rattle.dif_validate.specs.declared.register.Reg.{Reg}
 use Rattle.dif_validate.specs.declared.shape.Shape.{Shape}
 use Rattle.dif_validate.specs.Asks.{finds_other, finds_unset}
 use Rattle.dif_validate.specs.Leaves.{with_register, shape_compared, shape_with_tuple}
@@ -19,7 +15,6 @@ use Rattle.dif_validate.specs.Registers.{register_number, at, put}
 use Rattle.dif_validate.specs.Shapes.{is_other, is_unset}
 use Rattle.dif_validate.proofs.Flowing.{Within}
 use Rattle.dif_validate.proofs.Writes.{number_below, put_set, put_zero, put_long}
-use Rattle.dif_machine.specs.declared.comparing.Comparison.{Comparison}
 use Rattle.dif_machine.specs.Frames.{Frame}
 use Rattle.dif_machine.specs.Frames as frames
 use Rattle.dif_machine.specs.Kinds.{kinds_of}

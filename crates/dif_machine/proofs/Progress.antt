@@ -2,30 +2,21 @@
 use Rattle.std.specs.Prelude.{◌≡◌, ◌≢◌, ◌<◌, ℕ, zero, suc, ◌+◌, ◌++◌, Bool, true, false, List, []}
 use Rattle.std.specs.Prelude.{◌∷◌, length, nat_lt, if◌then◌else◌, Option, Some, None, Result, Ok}
 use Rattle.std.specs.Prelude.{Err, slice_get}
-use Rattle.std.specs.Int.{cast_signed, w64}
+use Rattle.dif_machine.specs.Vocabulary.{cast_signed, w64, OutOfZero, KeyPart, Kind, Value, Firing}
+use Rattle.dif_machine.specs.Vocabulary.{Condition, Function, Strlen, Strjoin, Instr, Alu, Not, Mov}
+use Rattle.dif_machine.specs.Vocabulary.{Cmp, Tst, Scmp, Ba, Branch, Setx, Sets, Ldgs, Ldga, Ldts}
+use Rattle.dif_machine.specs.Vocabulary.{Stts, Ldls, Stls, Pushtr, Pushtv, Flushts, Ldtaa, Sttaa}
+use Rattle.dif_machine.specs.Vocabulary.{Call, Ret, Nop, Reg, Object, at, return_kind, IsValid}
+use Rattle.dif_machine.specs.Vocabulary.{Comparison, MachineFault, DivideByZero, Memory, Variables}
+use Rattle.dif_machine.specs.Vocabulary.{as_kind}
 use Rattle.std.proofs.Common.{refl, sym, ap, ◌∙◌, subst, ⊎_elim, arith, cond}
 use Rattle.std.proofs.lemmas.List.{map-append, length-map}
 use Rattle.std.proofs.lemmas.Bool.{ltb-false, leb-false, not-false}
 use Rattle.std.proofs.lemmas.Option.{slice_get_cases}
 use Rattle.d_values.specs.Stores.{kind_of, with_local, with_own}
-use Rattle.d_values.specs.declared.arithmetic.OutOfZero.{OutOfZero}
-use Rattle.d_values.specs.declared.key.KeyPart.{KeyPart}
 use Rattle.d_values.specs.declared.key.KeyPart.TheVariants as part
-use Rattle.d_values.specs.declared.value.Kind.{Kind}
 use Rattle.d_values.specs.declared.value.Kind.TheVariants.{Number, Text}
-use Rattle.d_values.specs.declared.value.Value.{Value}
 use Rattle.d_values.specs.declared.value.Value.TheVariants as va
-use Rattle.firings.specs.declared.firing.Firing.{Firing}
-use Rattle.dif_validate.specs.declared.instruction.Condition.{Condition}
-use Rattle.dif_validate.specs.declared.instruction.Function.{Function}
-use Rattle.dif_validate.specs.declared.instruction.Function.TheVariants.{Strlen, Strjoin}
-use Rattle.dif_validate.specs.declared.instruction.Instr.{Instr}
-use Rattle.dif_validate.specs.declared.instruction.Instr.TheVariants.{Alu, Not, Mov, Cmp, Tst, Scmp}
-use Rattle.dif_validate.specs.declared.instruction.Instr.TheVariants.{Ba, Branch, Setx, Sets, Ldgs}
-use Rattle.dif_validate.specs.declared.instruction.Instr.TheVariants.{Ldga, Ldts, Stts, Ldls, Stls}
-use Rattle.dif_validate.specs.declared.instruction.Instr.TheVariants.{Pushtr, Pushtv, Flushts}
-use Rattle.dif_validate.specs.declared.instruction.Instr.TheVariants.{Ldtaa, Sttaa, Call, Ret, Nop}
-use Rattle.dif_validate.specs.declared.register.Reg.{Reg}
 use Rattle.dif_validate.specs.declared.register.Reg.TheVariants.{R0, R1, R2, R3, R4, R5, R6, R7}
 use Rattle.dif_validate.specs.declared.shape.Shape.{Shape}
 use Rattle.dif_validate.specs.Asks.{takes_tuple, is_tuple_of, is_some_tuple}
@@ -33,17 +24,10 @@ use Rattle.dif_validate.specs.Faults.{misses_tuple}
 use Rattle.dif_validate.specs.Flow.{falls, jump_target, before}
 use Rattle.dif_validate.specs.Leaves.{leaves, with_register, tuple_with}
 use Rattle.dif_validate.specs.Rows.{kind_of_built_in, kind_of_function}
-use Rattle.dif_validate.specs.Objects.{Object}
-use Rattle.dif_validate.specs.Registers.{at}
-use Rattle.dif_validate.specs.Returns.{return_kind}
 use Rattle.dif_validate.specs.Shapes.{first_shape}
-use Rattle.dif_validate.specs.Validity.{IsValid}
 use Rattle.dif_validate.proofs.Faultless.{IsFaultless, faultless, goes_on, stays_in}
 use Rattle.dif_validate.proofs.Flowing.{flows_next, flows_target}
 use Rattle.dif_validate.proofs.Returning.{next_inside, closed_inside, returns_its_kind}
-use Rattle.dif_machine.specs.declared.comparing.Comparison.{Comparison}
-use Rattle.dif_machine.specs.declared.fault.MachineFault.{MachineFault}
-use Rattle.dif_machine.specs.declared.fault.MachineFault.TheVariants.{DivideByZero, Memory}
 use Rattle.dif_machine.specs.Frames.{Frame}
 use Rattle.dif_machine.specs.Frames as frames
 use Rattle.dif_machine.specs.Kinds.{kind_of_part, kinds_of}
@@ -52,7 +36,6 @@ use Rattle.dif_machine.specs.Operators.{result_of, comparison_of, text_compariso
 use Rattle.dif_machine.specs.Operators.{call_of}
 use Rattle.dif_machine.specs.Runs.{End, Reaches, ends, faults, goes, Comes, stays, steps_on}
 use Rattle.dif_machine.specs.Runs.{RunEnds}
-use Rattle.d_values.specs.Storage.{Variables, as_kind}
 use Rattle.dif_machine.specs.Sources.{built_in_of, built_ins, local_in, own_value}
 use Rattle.dif_machine.specs.Semantics.{Next, Goes, Ends, Faults, Stuck, on, on_key, puts_result}
 use Rattle.dif_machine.specs.Semantics.{pushes, act, step_of}

@@ -6,7 +6,7 @@ use Rattle.numbered.specs.Texts.{Keeps}
 use Rattle.numbered.specs.declared.word.Word.{Word}
 use Rattle.dif_machine.specs.Vocabulary.{Firing, Instr, IsValid, MachineFault, Object, Reg, at}
 use Rattle.dif_machine.specs.Vocabulary.{Value, Variables}
-use Rattle.dif_machine.specs.Frames.{at_index, start}
+use Rattle.dif_machine.specs.Frames.{at_index}
 use Rattle.dif_machine.specs.Machine.{IsWithin, Knows, Seen, word_result}
 use Rattle.dif_machine.specs.Runs.{RunEnds}
 use Rattle.dif_machine.specs.Semantics.{Stuck, act, on, step_of}

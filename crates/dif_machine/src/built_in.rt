@@ -1,6 +1,6 @@
 //! Built-in variables.
 
-ghost use Rattle.std.specs.Prelude.{◌≡◌, ◌≤◌, ◌<◌, ◌-◌, IfOk, slice_index_or};
+ghost use Rattle.std.specs.Prelude.{◌≡◌, ◌<◌, IfOk, slice_index_or};
 ghost use Rattle.numbered.specs.Texts.{text_at};
 ghost use Rattle.dif_machine.specs.Machine.{IsWordOf, texts_of};
 ghost use Rattle.dif_machine.specs.Sources.{argument_of, built_ins};
@@ -35,30 +35,33 @@ pub(crate) fn built_in(
         1 => Ok(Word::Int(i64::from(firing.cpu).cast_unsigned())),
         2 => Ok(Word::Int(i64::from(firing.pid).cast_unsigned())),
         3 => Ok(Word::Int(i64::from(firing.thread).cast_unsigned())),
-        _ => match numbers[v as usize - 4] {
-            Some(number) => Ok(Word::Text(number)),
-            None => Ok(Word::Text(find(texts, lasting, numbers, firing, v)?)),
-        },
+        _ => {
+            let index = v as usize - 4;
+            match numbers[index] {
+                Some(number) => Ok(Word::Text(number)),
+                None => Ok(Word::Text(find(texts, lasting, numbers, firing, index)?)),
+            }
+        }
     }
 }
 
-// The number of a built-in variable that is a text, and that isn't known. The text lasts.
+// The number of the firing's text of this index, which isn't known. The text lasts.
 #[inline(never)]
 fn find(
     texts: &mut Texts,
     lasting: &mut usize,
     numbers: &mut Numbers,
     firing: &Firing,
-    v: u8,
+    index: usize,
 ) -> Result<u64, AllocError>
-    requires text { (4 ≤ v) × (v < 9) }
+    requires text { index < 5 }
     requires ready { HasFound firing.now texts.old lasting.old numbers.old }
-    ensures { FindsText firing.now v texts.old lasting.old result texts.new lasting.new
+    ensures { FindsText firing.now index texts.old lasting.old result texts.new lasting.new
         numbers.new }
 {
-    let number = texts.number(text(firing, v))?;
+    let number = texts.number(text(firing, index))?;
     *lasting = lasting_with(texts, *lasting, Word::Text(number), &[]);
-    numbers[v as usize - 4] = Some(number);
+    numbers[index] = Some(number);
     Ok(number)
 }
 
@@ -70,19 +73,18 @@ fn time(firing: &Firing) -> u64
     firing.time
 }
 
-// The bytes of a built-in variable that is a text.
+// The bytes of the firing's text of this index: of none past the last.
 #[inline(always)]
-fn text<'a>(firing: &'a Firing, v: u8) -> &'a [u8]
-    requires { (4 ≤ v) × (v < 9) }
-    ensures { text_at (texts_of firing.now) (v - 4) ≡ result.now }
+fn text<'a>(firing: &'a Firing, index: usize) -> &'a [u8]
+    ensures { result.now ≡ text_at (texts_of firing.now) index }
 {
-    match v {
-        4 => firing.execname.as_bytes(),
-        5 => firing.provider.as_bytes(),
-        6 => firing.probemod.as_bytes(),
-        7 => firing.probefunc.as_bytes(),
-        8 => firing.name.as_bytes(),
-        _ => unreachable!(),
+    match index {
+        0 => firing.execname.as_bytes(),
+        1 => firing.provider.as_bytes(),
+        2 => firing.probemod.as_bytes(),
+        3 => firing.probefunc.as_bytes(),
+        4 => firing.name.as_bytes(),
+        _ => &[],
     }
 }
 

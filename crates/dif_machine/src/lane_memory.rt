@@ -80,7 +80,7 @@ impl Memory for LaneMemory {
 
     #[inline(always)]
     fn load_own(&mut self, _texts: &mut Texts, x: Var, key: &Tuple) -> Result<Word, AllocError> {
-        let bits = self.table.get(self.thread, cell(x, key), key.words());
+        let bits = self.table.get(self.thread, cell(x, key), key);
         Ok(Word::of(x.kind, bits))
     }
 
@@ -92,8 +92,8 @@ impl Memory for LaneMemory {
         key: &Tuple,
         word: Word,
     ) -> Result<(), AllocError> {
-        self.table
-            .set(self.thread, cell(x, key), key.words(), word.bits())
+        let _few = key.words();
+        self.table.set(self.thread, cell(x, key), key, word.bits())
     }
 
     ghost stays = { λ m old new over kept.

@@ -3,10 +3,9 @@
 ghost use Rattle.std.specs.Prelude.{◌≡◌, ◌≢◌, ◌<◌, ◌++◌, ◌∷◌, [], ℕ, List, length};
 ghost use Rattle.std.specs.Prelude.{Some, None, IfOk, slice_index_or};
 ghost use Rattle.numbered.specs.Texts.{Keeps, text_at};
-ghost use Rattle.d_values.specs.{Keys.part_of, Texts.joined_text};
+ghost use Rattle.d_values.specs.{Keys.part_of};
 ghost use Rattle.dif_machine.specs.Vocabulary.{at, kind_of, Value};
-ghost use Rattle.dif_machine.specs.{Operators.call_of, Sources.built_ins, Sources.local_in};
-ghost use Rattle.dif_machine.specs.{Sources.own_value};
+ghost use Rattle.dif_machine.specs.{Operators.call_of, Sources.built_ins, Sources.own_value};
 ghost use Rattle.dif_machine.specs.Frames.{start, with_known, with_parts, with_register};
 ghost use Rattle.dif_machine.specs.Machine.{IsContentWithin, IsWithin, IsWordOf, Knows, content_of};
 ghost use Rattle.dif_machine.specs.Machine.{key_in, knows_nothing, value_of};
@@ -319,21 +318,6 @@ impl Machine {
         }
     }
 
-    /// The word of what a variable of the clause holds.
-    #[inline(always)]
-    pub(crate) fn load_local<M: Memory>(
-        &mut self,
-        memory: &mut M,
-        x: Var,
-    ) -> Result<Word, AllocError>
-        requires { M.is_over memory.old self.old.texts }
-        ensures grows { Grows self.old self.new }
-        ensures loads { LoadsWord memory.old self.old.texts memory.new self.new.texts result
-            (local_in (M.holds memory.old self.old.texts) x) }
-    {
-        memory.load_local(&mut self.texts, x)
-    }
-
     /// The word of what a variable of the thread holds at one word.
     #[inline(always)]
     pub(crate) fn load_at<M: Memory>(
@@ -409,20 +393,13 @@ fn call(
             _ => unreachable!(),
         },
         Function::Strjoin => match tuple {
-            [Word::Text(a), Word::Text(b)] => join(alloc, texts, *a, *b),
+            [Word::Text(a), Word::Text(b)] => {
+                let joined = join_text(alloc, texts.text(*a), texts.text(*b))?;
+                text_word(texts, joined.as_bytes())
+            }
             _ => unreachable!(),
         },
     }
-}
-
-// The word of two texts, joined.
-fn join(alloc: Global, texts: &mut Texts, a: u64, b: u64) -> Result<Word, AllocError>
-    ensures kept { Keeps texts.old texts.new }
-    ensures word { IfOk result (λ word. IsWordOf texts.new word
-        (Value.Text (joined_text (text_at texts.old a) (text_at texts.old b)))) }
-{
-    let joined = join_text(alloc, texts.text(a), texts.text(b))?;
-    text_word(texts, joined.as_bytes())
 }
 
 /// The word of a text.

@@ -68,7 +68,7 @@ pub fn run_on<M: Memory>(
     match valid.load() {
         Load::BuiltIn(v) => Ok(machine.built_in(firing, v)?),
         Load::Argument(n) => Ok(Word::Int(argument(firing, n))),
-        Load::Local(x) => Ok(machine.load_local(memory, x)?),
+        Load::Local(x) => Ok(machine.load(memory, Variable::Local(x))?),
         Load::Scalar(x) => Ok(machine.load(memory, Variable::Scalar(x))?),
         Load::Element(x, v) => {
             let key = machine.built_in(firing, v)?;

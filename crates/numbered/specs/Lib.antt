@@ -2,4 +2,4 @@ pub mod Words
 pub mod Texts
 pub mod Tables
 pub mod Shapes
-pub mod Steps
+pub mod Indices

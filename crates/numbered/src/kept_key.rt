@@ -1,11 +1,12 @@
 //! Keys as tables keep them.
 
-ghost use Rattle.std.specs.Prelude.{◌≡◌, ◌↔◌, ◌<◌, ◌≤◌, ◌++◌, ◌∷◌, [], length, map, IsTrue, true};
+ghost use Rattle.std.specs.Prelude.{◌≡◌, ◌↔◌, ◌<◌, ◌++◌, ◌∷◌, [], length, map, IsTrue, true};
 ghost use Rattle.d_values.specs.Vocabulary.{ap, partial_equiv_from_equiv, flat_map};
 ghost use Rattle.std.specs.Cmp.Lexicographic.{bytes_decides, nat_list_eq_equiv};
 ghost use Rattle.std.specs.Hash.{u64};
 ghost use Rattle.numbered.specs.{Tables.key_of, Tables.same_words, Words.bits_of};
 
+use crate::tuple::Tuple;
 use crate::word::Word;
 use std::hash::{Hash, Hasher};
 use std::marker::Model;
@@ -29,9 +30,8 @@ impl Model for KeptKey {
 
 impl KeptKey {
     /// Two words, and those of a tuple.
-    pub(crate) fn of(first: u64, second: u64, words: &[Word]) -> KeptKey
-        requires { length words.now ≤ 8 }
-        ensures { result ≡ key_of first second words.now }
+    pub(crate) fn of(first: u64, second: u64, tuple: &Tuple) -> KeptKey
+        ensures { result ≡ key_of first second tuple.now }
     {
         let mut key = KeptKey {
             words: [0; 10],
@@ -39,6 +39,7 @@ impl KeptKey {
         };
         key.push(first);
         key.push(second);
+        let words = tuple.words();
         for word in words {
             key.push(word.bits());
         }
@@ -64,10 +65,11 @@ impl KeptKey {
 
     /// Whether it has these two words, and those of this tuple.
     #[inline(always)]
-    pub(crate) fn is(&self, first: u64, second: u64, words: &[Word]) -> bool
-        ensures { result ≡ true → self.now ≡ key_of first second words.now }
+    pub(crate) fn is(&self, first: u64, second: u64, tuple: &Tuple) -> bool
+        ensures { result ≡ true → self.now ≡ key_of first second tuple.now }
     {
         let kept = self.words();
+        let words = tuple.words();
         kept.len() == words.len() + 2
             && kept[1] == second
             && kept[0] == first

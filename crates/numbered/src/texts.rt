@@ -85,21 +85,14 @@ impl Texts {
         ensures { Numbers self.old bytes.now result self.new }
     {
         self.room.assign(bytes)?;
-        let index = match index_of(&self.texts, &self.room) {
-            Some(index) => index,
-            None => self.add(bytes)?,
-        };
-        self.cache.put(hash, index);
-        Ok(index as u64)
-    }
-
-    // The index of these bytes, which get one if they have none. Takes memory even if they have.
-    fn add(&mut self, bytes: &[u8]) -> Result<usize, AllocError>
-        ensures { Numbers self.old bytes.now result self.new }
-    {
+        if let Some(index) = index_of(&self.texts, &self.room) {
+            self.cache.put(hash, index);
+            return Ok(index as u64);
+        }
         let text = Text::from_slice(*self.texts.allocator(), bytes)?;
         let (index, _) = self.texts.insert_full(text)?;
-        Ok(index)
+        self.cache.put(hash, index);
+        Ok(index as u64)
     }
 
     /// How many texts have numbers.

@@ -1,13 +1,13 @@
 //! Tables of words.
 
-ghost use Rattle.std.specs.Prelude.{◌≡◌, ◌==◌, ◌≤◌, [], ℕ, List, None, Some, true, not, length};
-ghost use Rattle.std.specs.Prelude.{MatchOption};
+ghost use Rattle.std.specs.Prelude.{◌≡◌, ◌==◌, [], ℕ, List, None, Some, true, not};
 ghost use Rattle.indexmap.specs.IndexMap.{Updates};
 ghost use Rattle.numbered.specs.Tables.{SetsWord, entry_in, key_of, same_words, word_in};
-ghost use Rattle.numbered.specs.Steps.Indices.{IsAt};
+ghost use Rattle.numbered.specs.Indices.{IsAt, IsFound};
 
 use crate::index_cache::IndexCache;
 use crate::kept_key::KeptKey;
+use crate::tuple::Tuple;
 use crate::word::Word;
 use indexmap::IndexMap;
 use keyed_hash::HashKey;
@@ -65,7 +65,7 @@ impl WordTable {
     ///
     /// ```text
     /// let mut table = WordTable::new(alloc, HashKey::random(&rt));
-    /// table.get(0, 0, &[]); // 0
+    /// table.get(0, 0, &Tuple::new()); // 0
     /// ```
     pub fn new(alloc: Global, hash_key: HashKey) -> WordTable
         ensures { result ≡ [] }
@@ -83,64 +83,55 @@ impl WordTable {
     /// The word of a key. Takes no memory.
     ///
     /// ```text
-    /// table.set(7, 1, &[Word::Text(2)], 5)?;
-    /// table.get(7, 1, &[Word::Text(2)]); // 5
+    /// table.set(7, 1, &tuple, 5)?;
+    /// table.get(7, 1, &tuple); // 5
     /// ```
     #[inline(always)]
-    pub fn get(&mut self, first: u64, second: u64, words: &[Word]) -> u64
-        requires { length words.now ≤ 8 }
-        ensures value { result ≡ word_in self.old (key_of first second words.now) }
+    pub fn get(&mut self, first: u64, second: u64, tuple: &Tuple) -> u64
+        ensures value { result ≡ word_in self.old (key_of first second tuple.now) }
         ensures same { self.new ≡ self.old }
     {
-        read(&self.map, &mut self.found, first, second, words)
+        read(&self.map, &mut self.found, first, second, tuple)
     }
 
     /// Sets the word of a key.
     ///
     /// ```text
-    /// table.set(7, 1, &[Word::Text(2)], 5)?;
-    /// table.get(7, 1, &[Word::Text(2)]); // 5
+    /// table.set(7, 1, &tuple, 5)?;
+    /// table.get(7, 1, &tuple); // 5
     /// ```
     #[inline(always)]
     pub fn set(
         &mut self,
         first: u64,
         second: u64,
-        words: &[Word],
+        tuple: &Tuple,
         word: u64,
     ) -> Result<(), AllocError>
-        requires { length words.now ≤ 8 }
-        ensures { SetsWord self.old (key_of first second words.now) word result self.new }
+        ensures { SetsWord self.old (key_of first second tuple.now) word result self.new }
     {
-        match find(&self.map, &mut self.found, first, second, words) {
+        match find(&self.map, &mut self.found, first, second, tuple) {
             Some(index) => {
                 put(&mut self.map, index, word);
                 Ok(())
             }
-            None => self.start(first, second, words, word),
+            None => self.start(first, second, tuple, word),
         }
     }
 
     // Sets the word of a key that has no entry.
     #[cold]
-    fn start(
-        &mut self,
-        first: u64,
-        second: u64,
-        words: &[Word],
-        word: u64,
-    ) -> Result<(), AllocError>
-        requires few { length words.now ≤ 8 }
-        requires none { entry_in self.old (key_of first second words.now) ≡ None }
-        ensures { SetsWord self.old (key_of first second words.now) word result self.new }
+    fn start(&mut self, first: u64, second: u64, tuple: &Tuple, word: u64) -> Result<(), AllocError>
+        requires { entry_in self.old (key_of first second tuple.now) ≡ None }
+        ensures { SetsWord self.old (key_of first second tuple.now) word result self.new }
     {
         if word == 0 {
             return Ok(());
         }
         make_room(&mut self.map, &mut self.limit);
         let index = self.map.len();
-        self.map.insert(KeptKey::of(first, second, words), word)?;
-        let hash = self.found.hash(first, second, words);
+        self.map.insert(KeptKey::of(first, second, tuple), word)?;
+        let hash = self.found.hash(first, second, tuple.words());
         self.found.cache.put(hash, index);
         Ok(())
     }
@@ -148,11 +139,10 @@ impl WordTable {
 
 // The word of a key.
 #[inline(always)]
-fn read(map: &Map, found: &mut Found, first: u64, second: u64, words: &[Word]) -> u64
-    requires { length words.now ≤ 8 }
-    ensures { result ≡ word_in map.now.entries (key_of first second words.now) }
+fn read(map: &Map, found: &mut Found, first: u64, second: u64, tuple: &Tuple) -> u64
+    ensures { result ≡ word_in map.now.entries (key_of first second tuple.now) }
 {
-    let Some(index) = find(map, found, first, second, words) else {
+    let Some(index) = find(map, found, first, second, tuple) else {
         return 0;
     };
     match map.get_index(index) {
@@ -163,25 +153,21 @@ fn read(map: &Map, found: &mut Found, first: u64, second: u64, words: &[Word]) -
 
 // The index of a key's entry.
 #[inline(always)]
-fn find(map: &Map, found: &mut Found, first: u64, second: u64, words: &[Word]) -> Option<usize>
-    requires { length words.now ≤ 8 }
-    ensures { MatchOption result
-        (entry_in map.now.entries (key_of first second words.now) ≡ None)
-        (λ i. IsAt map.now.entries i (key_of first second words.now)) }
+fn find(map: &Map, found: &mut Found, first: u64, second: u64, tuple: &Tuple) -> Option<usize>
+    ensures { IsFound same_words map.now.entries (key_of first second tuple.now) result }
 {
-    let hash = found.hash(first, second, words);
+    let hash = found.hash(first, second, tuple.words());
     let index = found.cache.get(hash);
-    if is_at(map, index, first, second, words) {
+    if is_at(map, index, first, second, tuple) {
         return Some(index);
     }
-    find_by_hash(map, found, &KeptKey::of(first, second, words), hash)
+    find_by_hash(map, found, &KeptKey::of(first, second, tuple), hash)
 }
 
 // Where the map has a key that the cache doesn't have.
 #[cold]
 fn find_by_hash(map: &Map, found: &mut Found, key: &KeptKey, hash: u64) -> Option<usize>
-    ensures { MatchOption result (entry_in map.now.entries key.now ≡ None)
-        (λ i. IsAt map.now.entries i key.now) }
+    ensures { IsFound same_words map.now.entries key.now result }
 {
     let (index, _, _) = map.get_full(key)?;
     found.cache.put(hash, index);
@@ -190,12 +176,12 @@ fn find_by_hash(map: &Map, found: &mut Found, key: &KeptKey, hash: u64) -> Optio
 
 // Whether the key's entry has this index.
 #[inline(always)]
-fn is_at(map: &Map, index: usize, first: u64, second: u64, words: &[Word]) -> bool
+fn is_at(map: &Map, index: usize, first: u64, second: u64, tuple: &Tuple) -> bool
     ensures { result ≡ true
-        → IsAt map.now.entries index (key_of first second words.now) }
+        → IsAt same_words map.now.entries index (key_of first second tuple.now) }
 {
     match map.get_index(index) {
-        Some((there, _)) => there.is(first, second, words),
+        Some((there, _)) => there.is(first, second, tuple),
         None => false,
     }
 }
@@ -203,8 +189,8 @@ fn is_at(map: &Map, index: usize, first: u64, second: u64, words: &[Word]) -> bo
 // Sets the word of the key whose entry is at this index.
 #[inline(always)]
 fn put(map: &mut Map, index: usize, word: u64)
-    requires { (key : List ℕ) × IsAt map.old.entries index key }
-    ensures { (key : List ℕ) → IsAt map.old.entries index key
+    requires { (key : List ℕ) × IsAt same_words map.old.entries index key }
+    ensures { (key : List ℕ) → IsAt same_words map.old.entries index key
         → Updates same_words map.old map.new key (Some word) }
 {
     if let Some(place) = map.get_index_mut(index) {
@@ -217,20 +203,13 @@ fn put(map: &mut Map, index: usize, word: u64)
 fn make_room(map: &mut Map, limit: &mut usize)
     ensures { word_in map.new.entries ≡ word_in map.old.entries }
 {
-    if *limit <= map.len() {
-        leave_out_zeros(map);
-        *limit = map.len().saturating_mul(4).saturating_add(MIN_LIMIT);
+    if map.len() < *limit {
+        return;
     }
-}
-
-// Leaves out the entries of 0.
-fn leave_out_zeros(map: &mut Map)
-    ensures { word_in map.new.entries ≡ word_in map.old.entries }
-{
-    let _len = map.len();
     map.retain(
         |_key: &KeptKey, word: &mut u64| -> bool
             ensures { (result ≡ not (word.old == 0)) × (word.new ≡ word.old) }
         { *word != 0 },
     );
+    *limit = map.len().saturating_mul(4).saturating_add(MIN_LIMIT);
 }

@@ -1,5 +1,5 @@
 -- What was found of a firing's texts.
-use Rattle.std.specs.Prelude.{◌≡◌, ◌<◌, ◌≤◌, ◌-◌, ℕ, List, Option, Result, IfOk, length, take}
+use Rattle.std.specs.Prelude.{◌≡◌, ◌<◌, ◌≤◌, ℕ, List, Option, Result, IfOk, length, take}
 use Rattle.numbered.specs.Texts.{AreDistinct, Keeps, text_at}
 use Rattle.dif_machine.specs.Vocabulary.{Firing}
 use Rattle.dif_machine.specs.Machine.{AreNumbers, Knows, found_of, texts_of}
@@ -23,10 +23,10 @@ pub record Finds (f : Firing) (old : List (List ℕ)) (before : ℕ) (texts : Li
   pub least : before ≤ lasting
   pub has : HasFound f texts lasting numbers
 
--- the number of a built-in variable that is a text was found, or memory was refused
-pub record FindsText {E : Type 0} (f : Firing) (v : ℕ) (old : List (List ℕ)) (before : ℕ)
+-- the number of the firing's text of this index was found, or memory was refused
+pub record FindsText {E : Type 0} (f : Firing) (index : ℕ) (old : List (List ℕ)) (before : ℕ)
     (result : Result ℕ E) (texts : List (List ℕ)) (lasting : ℕ) (numbers : List (Option ℕ))
     : Type 0 where
   pub finds : Finds f old before texts lasting numbers
-  pub number : IfOk result (λ n. text_at (texts_of f) (v - 4) ≡ text_at texts n)
+  pub number : IfOk result (λ n. text_at (texts_of f) index ≡ text_at texts n)
   pub within : IfOk result (λ n. n < length texts)

@@ -1,6 +1,5 @@
 //! Instructions on the tuple.
 
-ghost use Rattle.std.specs.Prelude.{◌<◌, length};
 ghost use Rattle.dif_machine.specs.Vocabulary.{Pushtr, Pushtv, Call};
 ghost use Rattle.dif_machine.specs.Steps.Instructions.{CanExecute, Executes};
 
@@ -12,8 +11,7 @@ use numbered::Word;
 /// `pushtr a`: adds a text.
 #[inline(always)]
 pub(super) fn pushtr(machine: &mut Machine, a: Reg, next: usize) -> Step
-    requires can { CanExecute (Pushtr a) next machine.old.frame }
-    requires room { length machine.old.frame.tuple < 8 }
+    requires { CanExecute (Pushtr a) next machine.old.frame }
     ensures { Executes (Pushtr a) next machine.old result machine.new }
 {
     let number = machine.text_number(a);
@@ -24,8 +22,7 @@ pub(super) fn pushtr(machine: &mut Machine, a: Reg, next: usize) -> Step
 /// `pushtv a`: adds an integer.
 #[inline(always)]
 pub(super) fn pushtv(machine: &mut Machine, a: Reg, next: usize) -> Step
-    requires can { CanExecute (Pushtv a) next machine.old.frame }
-    requires room { length machine.old.frame.tuple < 8 }
+    requires { CanExecute (Pushtv a) next machine.old.frame }
     ensures { Executes (Pushtv a) next machine.old result machine.new }
 {
     let word = machine.number(a);

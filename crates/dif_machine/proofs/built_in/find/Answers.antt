@@ -1,10 +1,10 @@
 use Rattle.std.specs.Prelude.{◌≤◌, [], length}
-use Rattle.std.proofs.Common.{◌-◌, arith, rules, sym, take, ◌∙◌}
+use Rattle.std.proofs.Common.{arith, rules, sym, take, ◌∙◌}
 use Rattle.std.proofs.lemmas.List.Elements.{All-cons, All-head, All-nil}
 use Rattle.numbered.specs.declared.word.Word.TheVariants.{Text}
 use Rattle.dif_machine.specs.Machine.{IsWithin}
 use Rattle.dif_machine.proofs.Knowing.{found_more, found_still}
-use Rattle.dif_machine.proofs.Holding.{first_kept, keeps_refl, number_still, number_text, number_within}
+use Rattle.dif_machine.proofs.Holding.{first_kept, number_still, number_text, number_within}
 use Rattle.dif_machine.proofs.built_in.find.Goals as goal
 
 pub lasting_with-requires-clause-within : goal.lasting_with-requires-clause-within
@@ -43,9 +43,9 @@ returns c =
         has = record {
           distinct = n.distinct;
           inside = l.most;
-          found = found_more c.args.firing.now _ _ kept c.args.numbers.now r.found (c.args.v - 4) _ c.text.result.now c.text.ensures (number_still new c.lasting_with.result c.in_ok-number.number c.text.result.now number inside);
+          found = found_more c.args.firing.now _ _ kept c.args.numbers.now r.found c.args.index _ c.text.result.now (sym c.text.ensures) (number_still new c.lasting_with.result c.in_ok-number.number c.text.result.now number inside);
         };
       };
-      number = c.text.ensures ∙ sym (number_text new _ _ number);
+      number = sym c.text.ensures ∙ sym (number_text new _ _ number);
       within = number_within new _ _ number;
     }

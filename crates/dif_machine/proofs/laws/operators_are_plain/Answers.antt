@@ -6,13 +6,10 @@ use Rattle.std.proofs.lemmas.Nat.{and_le_l, or_lt, xor_lt}
 use Rattle.std.proofs.Math.Nat.{div-le_self, mod-le}
 use Rattle.d_values.proofs.Residues.{moved, operated}
 use Rattle.d_values.specs.Numbers.{bits_of}
-use Rattle.d_values.specs.declared.operators.ArithmeticOperator.TheVariants.{Divide, Remainder}
-use Rattle.d_values.specs.declared.operators.ShiftOperator.TheVariants.{Right}
+use Rattle.dif_machine.specs.Vocabulary.{Divide, Remainder, Right, Or, Xor, And, Sll, Srl, Sra, Sub}
+use Rattle.dif_machine.specs.Vocabulary.{Add, Mul, Sdiv, Udiv, Srem, Urem}
 use Rattle.d_values.specs.Types.{INT64}
 use Rattle.d_values.specs.Words.{narrow}
-use Rattle.dif_validate.specs.declared.instruction.Operator.TheVariants.{Or, Xor, And, Sll, Srl}
-use Rattle.dif_validate.specs.declared.instruction.Operator.TheVariants.{Sra, Sub, Add, Mul, Sdiv}
-use Rattle.dif_validate.specs.declared.instruction.Operator.TheVariants.{Udiv, Srem, Urem}
 use Rattle.dif_machine.specs.Plain.{divided_by, signed}
 use Rattle.dif_machine.proofs.Numbers.{bits_small, signed_stays, whole}
 use Rattle.dif_machine.proofs.laws.operators_are_plain.Goals as goal

@@ -5,7 +5,7 @@ use Rattle.numbered.specs.Texts.{Keeps}
 use Rattle.dif_validate.specs.Loads.{Loads}
 use Rattle.dif_machine.specs.Vocabulary.{Int, Ldgs, Ldls, Ldts, Setx, Value, Variables}
 use Rattle.dif_machine.specs.Frames.{start}
-use Rattle.dif_machine.specs.Machine.{Knows, Seen, key_in}
+use Rattle.dif_machine.specs.Machine.{Knows, key_in}
 use Rattle.dif_machine.specs.Runs.{Returns, Runs}
 use Rattle.d_values.specs.Keys.{part_of}
 use Rattle.dif_machine.specs.Semantics.{on, puts}
@@ -43,18 +43,18 @@ returns-in-Argument g c =
     let run = loads_argument c.args.valid.now c.args.firing.now (Setx load.i R1) c.in-Argument.n (vars g s) load.first load.second load.third (ap (λ x. on x (λ n. puts start R1 (Int n) (vars g s))) load.number) in
     returned g.M.Memory.holds g.M.Memory.is_over g.M.Memory.beside c.args.valid.now c.args.firing.now c.args.memory.now c.args.machine.now g.met.M.Memory.stays c.requires.over _ _ refl (keeps_refl _) c.requires.known _ (search rules) (subst (λ n. Runs c.args.valid.now c.args.firing.now (vars g s) (Returns (Int n) (vars g s))) (sym c.argument.ensures) run)
 
-pub returns-in_err-load_local-in-Local : goal.returns-in_err-load_local-in-Local
-returns-in_err-load_local-in-Local g c =
-    let k = c.load_local.ensures.loads in
-    refused g.M.Memory.holds g.M.Memory.is_over g.M.Memory.beside c.args.valid.now c.args.firing.now c.args.memory.now c.args.machine.now g.met.M.Memory.stays c.requires.over _ _ k.same k.kept (subst (Knows c.args.firing.now) (sym c.load_local.ensures.grows.known) c.requires.known) _ c.from_residual-in_err-load_local-in-Local.ensures.1
+pub returns-in_err-load-in-Local : goal.returns-in_err-load-in-Local
+returns-in_err-load-in-Local g c =
+    let k = c.load-in-Local.ensures.loads in
+    refused g.M.Memory.holds g.M.Memory.is_over g.M.Memory.beside c.args.valid.now c.args.firing.now c.args.memory.now c.args.machine.now g.met.M.Memory.stays c.requires.over _ _ k.same k.kept (subst (Knows c.args.firing.now) (sym c.load-in-Local.ensures.grows.known) c.requires.known) _ c.from_residual-in_err-load-in-Local.ensures.1
 
-pub returns-in_ok-load_local-in-Local : goal.returns-in_ok-load_local-in-Local
-returns-in_ok-load_local-in-Local g c =
-    let s = (goal.at.returns-in_ok-load_local-in-Local g c).Start in
+pub returns-in_ok-load-in-Local : goal.returns-in_ok-load-in-Local
+returns-in_ok-load-in-Local g c =
+    let s = (goal.at.returns-in_ok-load-in-Local g c).Start in
     let load = subst (λ l. Loads l c.args.valid.now) c.in-Local.is c.load.ensures in
-    let k = c.load_local.ensures.loads in
-    returned g.M.Memory.holds g.M.Memory.is_over g.M.Memory.beside c.args.valid.now c.args.firing.now c.args.memory.now c.args.machine.now g.met.M.Memory.stays c.requires.over _ _ k.same k.kept (subst (Knows c.args.firing.now) (sym c.load_local.ensures.grows.known) c.requires.known) _ c.in_ok-load_local-in-Local.ensures.loads.word.within
-    (loads_word c.args.valid.now c.args.firing.now _ _ (vars g s) (Ldls c.in-Local.x R1) _ load.first load.second refl c.in_ok-load_local-in-Local.ensures.loads.word)
+    let k = c.load-in-Local.ensures.loads in
+    returned g.M.Memory.holds g.M.Memory.is_over g.M.Memory.beside c.args.valid.now c.args.firing.now c.args.memory.now c.args.machine.now g.met.M.Memory.stays c.requires.over _ _ k.same k.kept (subst (Knows c.args.firing.now) (sym c.load-in-Local.ensures.grows.known) c.requires.known) _ c.in_ok-load-in-Local.ensures.loads.word.within
+    (loads_word c.args.valid.now c.args.firing.now _ _ (vars g s) (Ldls c.in-Local.x R1) _ load.first load.second refl c.in_ok-load-in-Local.ensures.loads.word)
 
 pub returns-in_err-load-in-Scalar : goal.returns-in_err-load-in-Scalar
 returns-in_err-load-in-Scalar g c =

@@ -1,5 +1,5 @@
 use Rattle.std.specs.Prelude.{◌≡◌, Err, Some, slice_get}
-use Rattle.std.proofs.Common.{◌<◌, ◌∙◌, arith, length, refl}
+use Rattle.std.proofs.Common.{◌<◌, arith, length, refl}
 use Rattle.std.proofs.lemmas.Option.{slice_get_read}
 use Rattle.dif_validate.specs.Objects.{object_of}
 use Rattle.dif_machine.proofs.Underway.{begins, failed, goes_on, is_there, rested, returned, runs}

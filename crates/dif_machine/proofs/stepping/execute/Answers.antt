@@ -7,7 +7,7 @@ use Rattle.dif_machine.specs.Sources.{built_ins}
 use Rattle.dif_machine.specs.Steps.Instructions.{CanExecute, ExecutesFor, ExecutesOn}
 use Rattle.dif_machine.specs.Vocabulary.{Firing, Flushts, Instr, Int, Ldga, MachineFault, Object, Reg, Text, Variables, object_of}
 use Rattle.dif_machine.specs.declared.onward.Onward.{Onward}
-use Rattle.dif_machine.proofs.Acting.{number_fits, only_array, ret_there, text_fits}
+use Rattle.dif_machine.proofs.Acting.{only_array, ret_there}
 use Rattle.dif_machine.proofs.Executing.{executed, goes, inside, on_memory, still_lasts}
 use Rattle.dif_machine.proofs.Holding.{keeps_refl}
 use Rattle.dif_machine.proofs.stepping.execute.Given.{Over}
@@ -111,13 +111,13 @@ returns-in-Ret g c =
     was g s _ c.in-Ret.is _ _ (record { kept = keeps_refl _; lasting = still_lasts _ _ refl refl; known = λ k. k; stepped = λ index is_next vars. (value.0, value.1, ap (λ x. on x (λ value. Ends value vars)) value.1) })
 
 pub pushtr-requires : goal.pushtr-requires
-pushtr-requires g c = let s = (goal.at.pushtr-requires g c).Start in record { can = can g s _ c.in-Pushtr.is; room = text_fits (o g s) (f g s) (frame g s) (vars g s) _ (runs g s _ c.in-Pushtr.is) }
+pushtr-requires g c = can g (goal.at.pushtr-requires g c).Start _ c.in-Pushtr.is
 
 pub returns-in-Pushtr : goal.returns-in-Pushtr
 returns-in-Pushtr g c = was g (goal.at.returns-in-Pushtr g c).Start _ c.in-Pushtr.is _ _ (c.pushtr.ensures _ _)
 
 pub pushtv-requires : goal.pushtv-requires
-pushtv-requires g c = let s = (goal.at.pushtv-requires g c).Start in record { can = can g s _ c.in-Pushtv.is; room = number_fits (o g s) (f g s) (frame g s) (vars g s) _ (runs g s _ c.in-Pushtv.is) }
+pushtv-requires g c = can g (goal.at.pushtv-requires g c).Start _ c.in-Pushtv.is
 
 pub returns-in-Pushtv : goal.returns-in-Pushtv
 returns-in-Pushtv g c = was g (goal.at.returns-in-Pushtv g c).Start _ c.in-Pushtv.is _ _ (c.pushtv.ensures _ _)

@@ -3,7 +3,7 @@ use Rattle.std.proofs.lemmas.Grind.{common_steps}
 use Rattle.d_values.specs.Storage.{as_kind}
 use Rattle.numbered.specs.Tables.{key_of, word_in}
 use Rattle.numbered.specs.Words.{word_of}
-use Rattle.dif_machine.specs.Cells.{cell_key, cell_of}
+use Rattle.dif_machine.specs.Cells.{cell_key}
 use Rattle.dif_machine.specs.Machine.{IsWithin, value_of}
 use Rattle.dif_machine.proofs.Cells.{as_it_is, parts_words}
 use Rattle.dif_machine.proofs.Holding.{keeps_refl}
@@ -16,8 +16,7 @@ returns c =
     let thread = c.args.self.now.thread in
     let x = c.args.x in
     let key = c.args.key.now in
-    let is : c.get-bits.result ≡ word_in table (cell_key thread x key) =
-    c.get-bits.ensures.value ∙ ap (λ n. word_in table (key_of thread n c.words.result.now)) c.cell.ensures ∙ ap (λ ws. word_in table (key_of thread (cell_of x key) ws)) c.words.ensures.words in
+    let is : c.get-bits.result ≡ word_in table (cell_key thread x key) = c.get-bits.ensures.value ∙ ap (λ n. word_in table (key_of thread n key)) c.cell.ensures in
     let word = c.of.ensures ∙ ap (word_of x.kind) is in
     record {
       kept = keeps_refl texts;

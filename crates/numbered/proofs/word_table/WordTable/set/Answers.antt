@@ -5,5 +5,5 @@ use Rattle.numbered.proofs.word_table.WordTable.set.Goals as goal
 
 pub returns-in-Some : goal.returns-in-Some
 returns-in-Some c =
-    let key = key_of c.args.first c.args.second c.args.words.now in
+    let key = key_of c.args.first c.args.second c.args.tuple.now in
     record { ok = words_set c.args.self.now _ _ key c.args.word (ap word_in c.self.view_is) (c.put.ensures key c.in-Some.ensures).0; err = tt }

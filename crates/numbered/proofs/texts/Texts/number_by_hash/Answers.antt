@@ -1,7 +1,7 @@
 use Rattle.std.proofs.Common.{arith, rules}
 use Rattle.std.proofs.lemmas.Grind.{common_steps}
 use Rattle.numbered.proofs.Numbered.{distinct_numbers}
-use Rattle.numbered.proofs.texts.Texts.add.Goals as goal
+use Rattle.numbered.proofs.texts.Texts.number_by_hash.Goals as goal
 
 pub invariant_of-self-2 : goal.invariant_of-self-2
 invariant_of-self-2 c = distinct_numbers _ c.insert_full.ensures.unique

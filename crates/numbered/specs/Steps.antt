@@ -1,2 +1,0 @@
--- What private functions alone say of their steps.
-pub mod Indices
