@@ -10,9 +10,7 @@ use Rattle.std.proofs.lemmas.Nat.{one_shl}
 use Rattle.std.proofs.lemmas.Int.{to_z_pos}
 use Rattle.std.proofs.Common.{to_z, ◌%◌}
 use mir.Syntax.{w64}
-use Rattle.aggregations.specs.declared.scale.Scale.{Scale}
-use Rattle.aggregations.specs.declared.scale.Scale.TheVariants.{Powers, Steps}
-use Rattle.aggregations.specs.declared.linear_range.LinearRange.{LinearRange}
+use Rattle.aggregations.specs.Vocabulary.{LinearRange, Scale, Powers, Steps}
 use Rattle.aggregations.specs.Buckets.{levels_of, buckets, label, is_greatest_up_to, is_least_from}
 use Rattle.aggregations.specs.Buckets.{is_in}
 

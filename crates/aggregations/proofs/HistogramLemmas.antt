@@ -1,22 +1,26 @@
 -- Histograms: counts from the buckets that were used, and what one more argument changes.
-use Rattle.std.proofs.Common.{◌≡◌, ◌≢◌, ℕ, ◌+◌, ◌<◌, ◌==◌, ◌⊎◌, inl, inr, false, cond, List, []}
+use Rattle.std.proofs.Common.{◌≡◌, ◌≢◌, ℕ, ◌+◌, ◌<◌, ◌==◌, ◌⊎◌, inl, inr, cond, List, []}
 use Rattle.std.proofs.Common.{◌∷◌, ◌++◌, Option, None, Some, refl, sym, ap, ◌∙◌, subst, arith, map}
 use Rattle.std.proofs.Common.{set, get_or, length, count_by, eq-eqb, ne_eqb, add-zero, zero-add}
 use Rattle.std.proofs.Common.{sum, ◌≤◌, ◌^◌, ⊎_elim}
-use Rattle.std.specs.List.{IsDistinct, AllByRecursion}
+use Rattle.std.specs.List.{IsDistinct}
+use Rattle.aggregations.specs.Vocabulary.{Scale}
 use Rattle.std.specs.Map.{keys_of, values_of}
 use Rattle.std.specs.Prelude.{ℤ, nat_eq}
 use Rattle.std.specs.List.{range_with_len}
 use Rattle.std.specs.Map.{lookup}
 use Rattle.std.specs.Option.{unwrap_or}
 use Rattle.std.proofs.lemmas.Bool.{cases_eq, cases_lt}
+use Rattle.std.proofs.lemmas.Cmp.{nat_eq_equiv}
 use Rattle.std.proofs.lemmas.Grind.{get_or-set_at, same_number_lists}
-use Rattle.std.proofs.lemmas.List.{get_or_past, get_or-map, get_or-set_other, length-map}
+use Rattle.std.proofs.lemmas.List.{get_or_past, get_or-set_other}
 use Rattle.std.proofs.lemmas.List.{length-set}
-use Rattle.std.proofs.lemmas.List.FromFn.{get_or-range_with_len, length-range_with_len}
+use Rattle.std.proofs.lemmas.List.FromFn.{get_or-map-range_with_len, length-map-range_with_len}
+use Rattle.std.proofs.lemmas.Map.{lookup-none}
+use Rattle.std.proofs.lemmas.Map.Entries.{lookup_head, lookup_tail, none_past_head}
+use Rattle.std.proofs.lemmas.Map.Keys.{IsDistinct-tail}
 use Rattle.std.proofs.lemmas.List.Sums.{sum_by_push, sum_by-append, sum_by-cons, sum_by-set}
 use Rattle.std.proofs.lemmas.List.Sums.{get_or-le-sum_by}
-use Rattle.aggregations.specs.declared.scale.Scale.{Scale}
 use Rattle.aggregations.specs.Buckets.{buckets, is_in, counts_of}
 use Rattle.aggregations.specs.Histograms.{Histogram, histogram_of, used_at, counts_used}
 use Rattle.aggregations.specs.Steps.Histograms.{with_more}
@@ -24,16 +28,11 @@ use Rattle.aggregations.specs.Histograms.{AreUsed}
 
 -- ---- a list of what g is at each number below n
 
-table : (ℕ → ℕ) → ℕ → List ℕ
-table g n = map g (range_with_len 0 n)
-
 pub table_at : (g : ℕ → ℕ) (n b : ℕ) → b < n → get_or (map g (range_with_len 0 n)) b 0 ≡ g b
-table_at g n b lt =
-    get_or-map g (range_with_len 0 n) b 0 0 (subst (λ m. b < m) (sym (length-range_with_len 0 n)) lt)
-    ∙ ap g (get_or-range_with_len 0 n b 0 lt ∙ zero-add b)
+table_at g n b lt = get_or-map-range_with_len g 0 n b b 0 lt (zero-add b)
 
 pub length-table : (g : ℕ → ℕ) (n : ℕ) → length (map g (range_with_len 0 n)) ≡ n
-length-table g n = length-map (range_with_len 0 n) g ∙ length-range_with_len 0 n
+length-table g n = length-map-range_with_len g 0 n
 
 -- g is f but at k
 pub changed_at : (f g : ℕ → ℕ) (n k v : ℕ) → k < n → g k ≡ v → ((b : ℕ) → b < n → b ≢ k → g b ≡ f b)
@@ -92,15 +91,11 @@ histogram_noted f h new k x args within only was is =
 
 -- ---- what is kept
 
-left_out : (k : ℕ) (es : List (ℕ × ℕ)) → AllByRecursion (λ y. nat_eq k y ≡ false) (keys_of es) → lookup (nat_eq k) es ≡ None
-left_out k [] h = refl
-left_out k (e ∷ es) h = ap (λ b. cond b (Some e.1) (lookup (nat_eq k) es)) h.0 ∙ left_out k es h.1
-
 pub front_used : (k m : ℕ) (rest : List (ℕ × ℕ)) → used_at ((k, m) ∷ rest) k ≡ m
-front_used k m rest = ap (λ b. unwrap_or (cond b (Some m) (lookup (nat_eq k) rest)) 0) (eq-eqb k k refl)
+front_used k m rest = ap (λ o. unwrap_or o 0) (lookup_head (nat_eq k) (k, m) rest (eq-eqb k k refl))
 
 passed : (k m b : ℕ) (rest : List (ℕ × ℕ)) → b ≢ k → lookup (nat_eq b) ((k, m) ∷ rest) ≡ lookup (nat_eq b) rest
-passed k m b rest ne = ap (λ t. cond t (Some m) (lookup (nat_eq b) rest)) (ne_eqb b k ne)
+passed k m b rest ne = lookup_tail (nat_eq b) (k, m) rest (ne_eqb b k ne)
 
 pub passed_used : (k m b : ℕ) (rest : List (ℕ × ℕ)) → b ≢ k → used_at ((k, m) ∷ rest) b ≡ used_at rest b
 passed_used k m b rest ne = ap (λ o. unwrap_or o 0) (passed k m b rest ne)
@@ -111,19 +106,17 @@ pub record AreBuckets (f : Scale) (used : List (ℕ × ℕ)) : Type 0 where
   pub each : (b m : ℕ) → lookup (nat_eq b) used ≡ Some m → (b < buckets f) × (0 < m)
 
 pub buckets_front : (f : Scale) (k m : ℕ) (rest : List (ℕ × ℕ)) → AreBuckets f ((k, m) ∷ rest) → (k < buckets f) × (0 < m)
-buckets_front f k m rest are = are.each k m (ap (λ b. cond b (Some m) (lookup (nat_eq k) rest)) (eq-eqb k k refl))
+buckets_front f k m rest are = are.each k m (lookup_head (nat_eq k) (k, m) rest (eq-eqb k k refl))
 
 gone_after : (f : Scale) (k m : ℕ) (rest : List (ℕ × ℕ)) → AreBuckets f ((k, m) ∷ rest) → lookup (nat_eq k) rest ≡ None
-unfolding IsDistinct
-gone_after f k m rest are = left_out k rest are.apart.0
+gone_after f k m rest are = lookup-none (nat_eq k) rest (none_past_head nat_eq_equiv k (k, m) rest are.apart (eq-eqb k k refl))
 
 pub gone_used : (f : Scale) (k m : ℕ) (rest : List (ℕ × ℕ)) → AreBuckets f ((k, m) ∷ rest) → used_at rest k ≡ 0
 gone_used f k m rest are = ap (λ o. unwrap_or o 0) (gone_after f k m rest are)
 
 pub buckets_rest : (f : Scale) (k m : ℕ) (rest : List (ℕ × ℕ)) → AreBuckets f ((k, m) ∷ rest) → AreBuckets f rest
-unfolding IsDistinct
 buckets_rest f k m rest are = record {
-  apart = are.apart.1;
+  apart = IsDistinct-tail nat_eq k (keys_of rest) are.apart;
   each = λ b n there. are.each b n (passed k m b rest (λ e. none_there (sym (ap (λ q. lookup (nat_eq q) rest) e ∙ gone_after f k m rest are) ∙ there)) ∙ there);
 }
   where

@@ -1,16 +1,23 @@
 -- An entry that is found by its index among the entries.
 use Rattle.std.specs.Prelude.{◌≡◌, ◌≢◌, ◌<◌, ◌+◌, ◌≤◌, ℕ, zero, suc, ℤ, List, [], ◌∷◌, ◌++◌, Option}
-use Rattle.std.specs.Prelude.{None, Some, length, slice_get, sum_by, get_or, set}
-use Rattle.std.proofs.Common.{refl, sym, ap, ◌∙◌, subst, arith}
-use Rattle.std.specs.Map.{values_of}
+use Rattle.std.specs.Prelude.{Some, length, slice_get, sum_by, get_or, set, ⊤, Result, OnOk}
+use Rattle.std.proofs.Common.{refl, sym, ap, ◌∙◌, subst, arith, cond}
+use Rattle.std.specs.declared.alloc.AllocError.{AllocError}
+use Rattle.std.specs.Map.{lookup, values_of}
+use Rattle.std.specs.Option.{option_map}
+use Rattle.std.proofs.lemmas.Option.{get_or_from_slice_get, slice_get-map, slice_get_within}
+use Rattle.std.proofs.lemmas.Result.{on_err_weaker, on_ok_weaker}
+use Rattle.d_values.specs.KeyLaws.{same_key_equiv}
 use Rattle.std.proofs.lemmas.List.Sums.{get_or-le-sum_by, sum_by-set}
 use Rattle.indexmap.specs.Layout.{set_value_at}
-use Rattle.d_values.specs.declared.key.KeyPart.{KeyPart}
-use Rattle.aggregations.specs.declared.function.AggFn.{AggFn}
+use Rattle.aggregations.specs.Vocabulary.{AggFn, KeyPart}
 use Rattle.aggregations.specs.declared.held.Held.{Held}
 use Rattle.aggregations.specs.Values.{count_in}
-use Rattle.aggregations.specs.Steps.Entries.{Notes}
-use Rattle.aggregations.specs.Steps.Values.{TakesOne}
+use Rattle.aggregations.specs.Steps.Entries.{Adds, Joins, Notes, Puts, Takes}
+use Rattle.aggregations.specs.Steps.Values.{TakesBoth, TakesOne}
+use Rattle.aggregations.specs.Table.{Aggregation}
+use Rattle.aggregations.specs.Vocabulary.{AllOrNothing, IsAt, same_key}
+use Rattle.aggregations.proofs.TableLemmas.{joins_there}
 
 -- the value that is there already
 pub set_same : (es : List (List KeyPart × Held)) (i : ℕ) (key : List KeyPart) (held : Held) → slice_get es i ≡ Some (key, held) → set_value_at es i held ≡ es
@@ -25,14 +32,11 @@ values_set [] i now = refl
 values_set (e ∷ es) zero now = refl
 values_set (e ∷ es) (suc i) now = ap (λ l. e.1 ∷ l) (values_set es i now)
 
-none_there : (key : List KeyPart) (held : Held) → ◌≡◌ {A = Option (List KeyPart × Held)} None (Some (key, held)) → ⊥
-none_there key held e = cc
-
 value_there : (es : List (List KeyPart × Held)) (i : ℕ) (key : List KeyPart) (held : Held) → slice_get es i ≡ Some (key, held)
     → (i < length (values_of es)) × (get_or (values_of es) i held ≡ held)
-value_there [] i key held at = absurd (none_there key held at)
-value_there (e ∷ es) zero key held at = let one : e ≡ (key, held) = cc in (omega arith, ap (λ p. p.1) one)
-value_there (e ∷ es) (suc i) key held at = let rest = value_there es i key held at in let inside = rest.0 in (omega arith, rest.1)
+value_there es i key held at =
+    let value = slice_get-map (λ e. e.1) es i ∙ ap (option_map (λ e. e.1)) at in
+    (slice_get_within (values_of es) i held value, get_or_from_slice_get (values_of es) i held held value)
 
 -- what the entries count together, before and after
 pub sum_set : (es : List (List KeyPart × Held)) (i : ℕ) (key : List KeyPart) (held now : Held) → slice_get es i ≡ Some (key, held)
@@ -50,11 +54,41 @@ held_counted es i key held at =
     let there = value_there es i key held at in
     subst (λ h. count_in h ≤ sum_by count_in (values_of es)) there.1 (get_or-le-sum_by count_in (values_of es) i held there.0)
 
--- ---- one argument more
+pub at_view : (m now : Aggregation) (i : ℕ) (key : List KeyPart) → m ≡ now → IsAt same_key m.entries i key → IsAt same_key now.entries i key
+at_view m now i key is at = subst (λ (a : Aggregation). IsAt same_key a.entries i key) is at
+
+-- ---- one argument more, or those of another entry
 
 push_some : (args : List ℤ) (arg : ℤ) → args ++ arg ∷ [] ≢ []
 push_some [] arg e = cc
 push_some (x ∷ xs) arg e = cc
 
-pub notes_there : (f : AggFn) (old : Held) (arg : ℤ) (new : Held) → TakesOne old arg new → Notes f (Some old) arg (Some new)
+notes_there : (f : AggFn) (old : Held) (arg : ℤ) (new : Held) → TakesOne old arg new → Notes f (Some old) arg (Some new)
 notes_there f old arg new takes args is = (push_some args arg, takes f args is.1)
+
+module _ (f : AggFn) (es : List (List KeyPart × Held)) (i : ℕ) (key k : List KeyPart) (held now : Held) (at : IsAt same_key es i key) (there : slice_get es i ≡ Some (k, held))
+    (up : (q : List KeyPart) → lookup (same_key q) (set_value_at es i now) ≡ cond (same_key key q) (Some now) (lookup (same_key q) es)) where
+  abbrev seen : List (List KeyPart × Held) → Aggregation
+  seen entries = record { function = f; entries = entries }
+
+  puts : (P : Option Held → Option Held → Type 0) → P (Some held) (Some now) → Puts (seen es) (seen (set_value_at es i now)) key (P (lookup (same_key key) es))
+  puts P p = record {
+    here = subst (λ o. P o (lookup (same_key key) (set_value_at es i now))) (sym (at.found ∙ ap (option_map (λ e. e.1)) (sym at.entry ∙ there)))
+        (subst (P (Some held)) (sym (up key ∙ ap (λ b. cond b (Some now) (lookup (same_key key) es)) (same_key_equiv.refl key))) p);
+    others = λ q e. up q ∙ ap (λ b. cond b (Some now) (lookup (same_key q) es)) e;
+  }
+
+  pub adds_at : (arg : ℤ) (r : Result ⊤ AllocError) → AllOrNothing r held now (TakesOne held arg now) → count_in now ≤ count_in held + 1 → Adds (seen es) (seen (set_value_at es i now)) key arg r
+  adds_at arg r noted more = record {
+    function = refl;
+    ok = on_ok_weaker r (λ takes. puts (λ o n. Notes f o arg n) (notes_there f held arg now takes)) noted.ok;
+    count = omega (arith, sum_set es i k held now there, more);
+    err = on_err_weaker r (λ same. ap (λ h. seen (set_value_at es i h)) same ∙ ap seen (set_same es i k held there)) noted.err;
+  }
+
+  pub takes_at : (more : Held) (r : Result ⊤ AllocError) → OnOk r (TakesBoth held more now) → count_in now ≤ count_in held + count_in more → Takes (seen es) (seen (set_value_at es i now)) key more r
+  takes_at more r joined most = record {
+    function = refl;
+    ok = on_ok_weaker r (λ both. puts (λ o n. Joins f o (Some more) n) (joins_there f held more now both)) joined;
+    count = omega (arith, sum_set es i k held now there, most);
+  }

@@ -1,20 +1,20 @@
 -- One aggregation takes the entries of another.
-use Rattle.std.proofs.Common.{◌≡◌, ℕ, ◌+◌, ◌<◌, ◌≤◌, ◌⊎◌, inl, inr, Bool, true, false, cond, length}
+use Rattle.std.proofs.Common.{◌≡◌, ℕ, ◌+◌, ◌<◌, ◌≤◌, ◌⊎◌, inl, inr, Bool, true, false, length}
 use Rattle.std.proofs.Common.{get_or, set, List, [], ◌∷◌, ◌++◌, Option, None, Some, refl, sym, ◌≢◌}
 use Rattle.std.proofs.Common.{ap, ◌∙◌, subst, arith, sum_by}
 use Rattle.std.specs.Prelude.{slice_get}
 use Rattle.std.specs.Option.{option_map}
 use Rattle.std.proofs.lemmas.Bool.{cases_eq}
-use Rattle.std.proofs.lemmas.Option.{slice_get-get_or, slice_get-map, slice_get_read, slice_get_within}
+use Rattle.std.proofs.lemmas.Option.{same_Some, slice_get-get_or, slice_get-map, slice_get_read, slice_get_within}
 use Rattle.std.proofs.Math.Seq.{map-set_same, get_or-append_seam}
 use Rattle.std.proofs.lemmas.List.{append_assoc, append-nil, length-append, length-map}
-use Rattle.std.specs.List.{IsDistinct, AllByRecursion}
+use Rattle.aggregations.specs.Vocabulary.{IsDistinct, AggFn, KeyPart, same_key}
 use Rattle.std.specs.Map.{lookup, keys_of, values_of}
 use Rattle.std.proofs.lemmas.List.Sums.{sum_by-append, sum_by-cons, sum_by-set}
-use Rattle.d_values.specs.declared.key.KeyPart.{KeyPart}
-use Rattle.d_values.specs.Keys.{same_key}
+use Rattle.std.proofs.lemmas.Map.{lookup-none}
+use Rattle.std.proofs.lemmas.Map.Entries.{lookup_head, lookup_tail, none_past_head}
+use Rattle.std.proofs.lemmas.Map.Keys.{IsDistinct-tail}
 use Rattle.d_values.specs.KeyLaws.{same_key_decides, same_key_equiv}
-use Rattle.aggregations.specs.declared.function.AggFn.{AggFn}
 use Rattle.aggregations.specs.declared.held.Held.{Held}
 use Rattle.aggregations.specs.Values.{count_in}
 use Rattle.aggregations.specs.Table.{Aggregation, Contribution, functions_of, count_of, count_held}
@@ -22,9 +22,6 @@ use Rattle.aggregations.specs.Table.{arguments_of, entry_at, IsEntry, HasEntry, 
 use Rattle.aggregations.proofs.TableLemmas.{arguments_of-append, slice_get-set_same}
 use Rattle.aggregations.proofs.TableLemmas.{slice_get-set_other}
 use Rattle.aggregations.specs.Steps.Entries.{Joins, Puts, TakesAll}
-
-some_is : {T : Type 0} {x y : T} → Some x ≡ Some y → x ≡ y
-some_is e = cc
 
 -- `first` takes `all`, and is `now`, with the entries `rest` of `all` still to come
 pub record Merging (first all : Aggregation) (rest : List (List KeyPart × Held)) (now : Aggregation) : Type 0 where
@@ -37,17 +34,12 @@ pub record Merging (first all : Aggregation) (rest : List (List KeyPart × Held)
 pub joins_first : (f : AggFn) (p : Held) → Joins f None (Some p) (Some p)
 joins_first f p xs ys none some = subst (λ l. IsEntry f (Some p) (l ++ ys)) (sym none) some
 
-left_out : (key : List KeyPart) (es : List (List KeyPart × Held)) → AllByRecursion (λ y. same_key key y ≡ false) (keys_of es) → lookup (same_key key) es ≡ None
-left_out key [] h = refl
-left_out key (e ∷ es) h = ap (λ b. cond b (Some e.1) (lookup (same_key key) es)) h.0 ∙ left_out key es h.1
-
 pub merging_more : (first all now next : Aggregation) (key : List KeyPart) (p : Held) (rest : List (List KeyPart × Held)) → Merging first all ((key, p) ∷ rest) now
     → next.function ≡ now.function → count_of next ≤ count_of now + count_in p
     → Puts now next key (Joins first.function (entry_at key now) (Some p)) → Merging first all rest next
-unfolding IsDistinct
 merging_more first all now next key p rest m kept more puts = record {
   function = kept ∙ m.function;
-  apart = m.apart.1;
+  apart = IsDistinct-tail same_key key (keys_of rest) m.apart;
   todo = λ k q e. todo k q e (same_key key k) refl;
   done = λ k e. done k e (same_key key k) refl;
   held = let sums = sum_by-cons count_in p (values_of rest) in let h = m.held in omega arith;
@@ -57,13 +49,13 @@ merging_more first all now next key p rest m kept more puts = record {
     exact k e = (same_key_decides key k).0 e
 
     gone : (k : List KeyPart) → same_key key k ≡ true → lookup (same_key k) rest ≡ None
-    gone k e = subst (λ q. lookup (same_key q) rest ≡ None) ((same_key_decides key k).0 e) (left_out key rest m.apart.0)
+    gone k e = lookup-none (same_key k) rest (none_past_head same_key_equiv k (key, p) rest m.apart (same_key_equiv.symm k key ∙ e))
 
     passed : (k : List KeyPart) → same_key key k ≡ false → lookup (same_key k) ((key, p) ∷ rest) ≡ lookup (same_key k) rest
-    passed k e = ap (λ b. cond b (Some p) (lookup (same_key k) rest)) (same_key_equiv.symm k key ∙ e)
+    passed k e = lookup_tail (same_key k) (key, p) rest (same_key_equiv.symm k key ∙ e)
 
     found : (k : List KeyPart) → same_key key k ≡ true → lookup (same_key k) ((key, p) ∷ rest) ≡ Some p
-    found k e = ap (λ b. cond b (Some p) (lookup (same_key k) rest)) (same_key_equiv.symm k key ∙ e)
+    found k e = lookup_head (same_key k) (key, p) rest (same_key_equiv.symm k key ∙ e)
 
     todo : (k : List KeyPart) (q : Held) → lookup (same_key k) rest ≡ Some q → (b : Bool) → same_key key k ≡ b → (entry_at k all ≡ Some q) × (entry_at k next ≡ entry_at k first)
     todo k q e true t = let none = gone k t in cc
@@ -131,7 +123,7 @@ module _ (first all now rest left : List Aggregation) (more : Aggregation) (same
 
     pub tables_function : old.function ≡ more.function
     tables_function =
-        some_is (sym (ap (option_map (λ a. a.function)) old_there) ∙ sym (slice_get-map (λ a. a.function) now index)
+        same_Some _ _ (sym (ap (option_map (λ a. a.function)) old_there) ∙ sym (slice_get-map (λ a. a.function) now index)
         ∙ ap (λ fs. slice_get fs index) (m.functions ∙ same) ∙ slice_get-map (λ a. a.function) all index
         ∙ ap (option_map (λ a. a.function)) more_there)
 
@@ -156,9 +148,9 @@ module _ (first all now rest left : List Aggregation) (more : Aggregation) (same
           done : (i : ℕ) (a b c : Aggregation) → length left ≤ i → slice_get first i ≡ Some a → slice_get all i ≡ Some b → slice_get (set now index new) i ≡ Some c
               → ((i ≡ index) ⊎ (i ≡ index → ⊥)) → TakesAll a b c
           done i a b c past x y z (inl e) =
-              let from : old ≡ a = some_is (sym old_there ∙ m.todo index (omega (arith, longer, at)) ∙ ap (slice_get first) (sym e) ∙ x) in
-              let by : more ≡ b = some_is (sym more_there ∙ ap (slice_get all) (sym e) ∙ y) in
-              let to : new ≡ c = some_is (sym (slice_get-set_same now index new within) ∙ ap (slice_get (set now index new)) (sym e) ∙ z) in
+              let from : old ≡ a = same_Some _ _ (sym old_there ∙ m.todo index (omega (arith, longer, at)) ∙ ap (slice_get first) (sym e) ∙ x) in
+              let by : more ≡ b = same_Some _ _ (sym more_there ∙ ap (slice_get all) (sym e) ∙ y) in
+              let to : new ≡ c = same_Some _ _ (sym (slice_get-set_same now index new within) ∙ ap (slice_get (set now index new)) (sym e) ∙ z) in
               subst (λ o. TakesAll o b c) from (subst (λ o. TakesAll old o c) by (subst (TakesAll old more) to takes))
           done i a b c past x y z (inr ne) =
               let apart : i ≢ length left = λ e. ne (e ∙ sym at) in
@@ -179,8 +171,8 @@ tables_all first all now xs ys same m stands stands_all agg key =
         → HasEntry oc key (arguments_of agg key xs ++ arguments_of agg key ys)
     at None None None c a b e f hx hy = ap (λ l. l ++ arguments_of agg key ys) hx ∙ hy
     at (Some new) (Some old) (Some more) c a b e f hx hy =
-        let kept : new.function ≡ old.function = some_is e in
-        let one : old.function ≡ more.function = some_is f in
+        let kept : new.function ≡ old.function = same_Some _ _ e in
+        let one : old.function ≡ more.function = same_Some _ _ f in
         let takes = m.done agg old more new (omega arith) a b c in
         subst (λ g. IsEntry g (entry_at key new) (arguments_of agg key xs ++ arguments_of agg key ys)) (sym kept)
         (takes key (arguments_of agg key xs) (arguments_of agg key ys) hx (subst (λ g. IsEntry g (entry_at key more) (arguments_of agg key ys)) (sym one) hy))

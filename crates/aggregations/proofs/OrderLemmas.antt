@@ -1,26 +1,23 @@
 -- What a table stands for doesn't depend on the order of the contributions.
-use Rattle.std.proofs.Common.{◌≡◌, ℕ, zero, suc, ◌+◌, ◌*◌, ◌<◌, ◌≤◌, Bool, true, false, cond, List}
+use Rattle.std.proofs.Common.{◌≡◌, ℕ, zero, suc, ◌+◌, ◌<◌, true, false, cond, List}
 use Rattle.std.proofs.Common.{[], ◌∷◌, length, get_or, All, Contains, sum_by, count_by, Option}
 use Rattle.std.proofs.Common.{None, Some, refl, sym, ap, ◌∙◌, subst, ⊎_elim, zero-add, arith, map}
 use Rattle.std.proofs.Common.{filter}
 use Rattle.std.specs.Prelude.{ℤ, pos, negsuc, ◌+ℤ◌, ◌≤ℤ◌, slice_get}
 use Rattle.std.specs.List.{range_with_len}
 use Rattle.std.specs.Ordering.{int_eq}
-use Rattle.std.specs.Int.Signed.{le_z}
 use Rattle.std.proofs.lemmas.Bool.Decides.{Decides-int_eq}
 use Rattle.std.proofs.lemmas.Cmp.{int_eq_equiv}
 use Rattle.std.specs.Int.{int_wrap}
 use mir.Syntax.{w64}
 use Rattle.std.proofs.lemmas.Int.{ints}
 use Rattle.std.proofs.lemmas.Bool.{cases_Bool}
-use Rattle.std.proofs.lemmas.List.Elements.{All-from_get_or, All-weaker, Contains-append_right}
-use Rattle.std.proofs.lemmas.List.Sums.{sum_by-cons, sum_by-le, get_or-le-sum_by}
-use Rattle.d_values.specs.declared.key.KeyPart.{KeyPart}
-use Rattle.aggregations.specs.declared.function.AggFn.{AggFn}
-use Rattle.aggregations.specs.declared.function.AggFn.TheVariants.{Count, Sum, Min, Max, Avg}
-use Rattle.aggregations.specs.declared.function.AggFn.TheVariants.{Quantize, Lquantize}
-use Rattle.aggregations.specs.declared.scale.Scale.{Scale}
-use Rattle.aggregations.specs.declared.scale.Scale.TheVariants.{Powers, Steps}
+use Rattle.std.proofs.lemmas.List.{nil_from_length}
+use Rattle.std.proofs.lemmas.List.Elements.{All-contains, All-contains_itself, All-weaker}
+use Rattle.std.proofs.lemmas.List.Elements.{Contains-append_right}
+use Rattle.std.proofs.lemmas.List.Sums.{sum_by-cons, get_or-le-sum_by}
+use Rattle.aggregations.specs.Vocabulary.{AggFn, Count, Sum, Min, Max, Avg, Quantize, Lquantize}
+use Rattle.aggregations.specs.Vocabulary.{Scale, Powers, Steps, KeyPart}
 use Rattle.aggregations.specs.declared.held.Held.{Held}
 use Rattle.aggregations.specs.declared.held.Held.TheVariants.{Counted, Summed, Least, Greatest}
 use Rattle.aggregations.specs.declared.held.Held.TheVariants.{Mean, Counts}
@@ -101,52 +98,19 @@ sum_from_contains m xs h =
 pub same_contains : (m : ℤ) (xs ys : List ℤ) → SameItems xs ys → Contains xs m → Contains ys m
 same_contains m xs ys same h = contains_from_sum m ys (let a = sum_from_contains m xs h in let b = same (hits m) in omega arith)
 
-fails : (ℤ → Bool) → ℤ → ℕ
-fails t x = cond (t x) 0 1
+-- what holds of each item
+same_all : (P : ℤ → Type 0) (xs ys : List ℤ) → SameItems xs ys → All P xs → All P ys
+same_all P xs ys same all =
+    All-weaker (Contains ys) P (λ y there. All-contains P xs y all (same_contains y ys xs (λ weight. sym (same weight)) there)) ys (All-contains_itself ys)
 
-fails_none : (t : ℤ → Bool) (x : ℤ) → t x ≡ true → fails t x ≤ 0
-unfolding fails
-fails_none t x e = subst (λ b. cond b 0 1 ≤ 0) (sym e) (omega arith)
+same_least : (m : ℤ) (xs ys : List ℤ) → SameItems xs ys → IsLeast m xs → IsLeast m ys
+same_least m xs ys same h = (same_contains m xs ys same h.0, same_all (λ x. m ≤ℤ x) xs ys same h.1)
 
-passes : (t : ℤ → Bool) (x : ℤ) → fails t x ≤ 0 → t x ≡ true
-unfolding fails
-passes t x le = ⊎_elim (λ (e : t x ≡ true). e)
-    (λ (e : t x ≡ false). let one : fails t x ≡ 1 = ap (λ b. cond b 0 1) e in absurd (omega arith))
-    (cases_Bool (t x))
-
--- what a test says of each item
-pub same_all : (t : ℤ → Bool) (xs ys : List ℤ) → SameItems xs ys → All (λ x. t x ≡ true) xs → All (λ x. t x ≡ true) ys
-same_all t xs ys same all =
-    let low : sum_by (fails t) xs ≤ length xs * 0 = sum_by-le (fails t) 0 xs (All-weaker (λ x. t x ≡ true) (λ x. fails t x ≤ 0) (fails_none t) xs all) in
-    let eq : sum_by (fails t) xs ≡ sum_by (fails t) ys = same (fails t) in
-    All-from_get_or (λ x. t x ≡ true) ys (pos 0) (λ i lt.
-    let le : fails t (get_or ys i (pos 0)) ≤ sum_by (fails t) ys = get_or-le-sum_by (fails t) ys i (pos 0) lt in
-    passes t (get_or ys i (pos 0)) (omega arith))
-
-above : (m x : ℤ) → m ≤ℤ x → le_z m x ≡ true
-above m x h = grind (arith, ints)
-
-above_is : (m x : ℤ) → le_z m x ≡ true → m ≤ℤ x
-above_is m x h = grind (arith, ints)
-
-pub same_least : (m : ℤ) (xs ys : List ℤ) → SameItems xs ys → IsLeast m xs → IsLeast m ys
-same_least m xs ys same h = (
-  same_contains m xs ys same h.0,
-  All-weaker (λ x. le_z m x ≡ true) (λ x. m ≤ℤ x) (above_is m) ys (same_all (le_z m) xs ys same (All-weaker (λ x. m ≤ℤ x) (λ x. le_z m x ≡ true) (above m) xs h.1)),
-)
-
-pub same_greatest : (m : ℤ) (xs ys : List ℤ) → SameItems xs ys → IsGreatest m xs → IsGreatest m ys
-same_greatest m xs ys same h = (
-  same_contains m xs ys same h.0,
-  All-weaker (λ x. le_z x m ≡ true) (λ x. x ≤ℤ m) (λ x. above_is x m) ys (same_all (λ x. le_z x m) xs ys same (All-weaker (λ x. x ≤ℤ m) (λ x. le_z x m ≡ true) (λ x. above x m) xs h.1)),
-)
+same_greatest : (m : ℤ) (xs ys : List ℤ) → SameItems xs ys → IsGreatest m xs → IsGreatest m ys
+same_greatest m xs ys same h = (same_contains m xs ys same h.0, same_all (λ x. x ≤ℤ m) xs ys same h.1)
 
 pub same_sum : (s : ℤ) (xs ys : List ℤ) → SameItems xs ys → IsSum s xs → IsSum s ys
 same_sum s xs ys same h = h ∙ ap (int_wrap w64) (same_total xs ys same)
-
-nil_of : (l : List ℤ) → length l ≡ 0 → l ≡ []
-nil_of [] e = refl
-nil_of (x ∷ l) e = absurd (omega arith)
 
 same_counts : (f : Scale) (xs ys : List ℤ) → SameItems xs ys → counts_of f xs ≡ counts_of f ys
 same_counts f xs ys same = each (range_with_len 0 (buckets f))
@@ -167,8 +131,8 @@ same_value (Lquantize r) (Counts h) xs ys same is = is ∙ ap (seen (Steps r)) (
 same_value _ _ xs ys same h = absurd h
 
 pub same_entry : (f : AggFn) (o : Option Held) (xs ys : List ℤ) → SameItems xs ys → IsEntry f o xs → IsEntry f o ys
-same_entry f None xs ys same h = nil_of ys (let e = same_length xs ys same in let z = ap length h in omega arith)
-same_entry f (Some p) xs ys same h = ((λ e. h.0 (nil_of xs (let n = same_length xs ys same in let z = ap length e in omega arith))), same_value f p xs ys same h.1)
+same_entry f None xs ys same h = nil_from_length ys (let e = same_length xs ys same in let z = ap length h in omega arith)
+same_entry f (Some p) xs ys same h = ((λ e. h.0 (nil_from_length xs (let n = same_length xs ys same in let z = ap length e in omega arith))), same_value f p xs ys same h.1)
 
 arguments_sum : (h : ℤ → ℕ) (agg : ℕ) (key : List KeyPart) (xs : List Contribution) → sum_by h (arguments_of agg key xs) ≡ sum_by (λ c. cond (is_for agg key c) (h c.arg) 0) xs
 arguments_sum h agg key [] = refl
@@ -183,7 +147,7 @@ pub same_arguments : (agg : ℕ) (key : List KeyPart) (xs ys : List Contribution
 same_arguments agg key xs ys same h = arguments_sum h agg key xs ∙ same (λ c. cond (is_for agg key c) (h c.arg) 0) ∙ sym (arguments_sum h agg key ys)
 
 has_entry_same : (a : Option Aggregation) (key : List KeyPart) (xs ys : List ℤ) → SameItems xs ys → HasEntry a key xs → HasEntry a key ys
-has_entry_same None key xs ys same h = nil_of ys (let e = same_length xs ys same in let z = ap length h in omega arith)
+has_entry_same None key xs ys same h = nil_from_length ys (let e = same_length xs ys same in let z = ap length h in omega arith)
 has_entry_same (Some a) key xs ys same h = same_entry a.function (entry_at key a) xs ys same h
 
 -- a table that stands for a list stands for it in any other order

@@ -1,17 +1,15 @@
 -- The sum of label times count, over the buckets that were used.
 use Rattle.std.proofs.Common.{◌≡◌, ◌≢◌, ℕ, zero, suc, ◌+◌, ◌-◌, ◌*◌, ◌^◌, ◌<◌, ◌≤◌, ◌⊎◌, inl, inr}
-use Rattle.std.proofs.Common.{Bool, true, false, ◌&&◌, List, [], ◌∷◌, refl, sym, ap, ◌∙◌, subst}
+use Rattle.std.proofs.Common.{Bool, true, ◌&&◌, List, [], ◌∷◌, refl, sym, ap, ◌∙◌, subst}
 use Rattle.std.proofs.Common.{arith, rules, tests, sum, map}
 use Rattle.std.specs.Prelude.{ℤ, pos, neg_ℤ, ◌+ℤ◌, ◌*ℤ◌, ◌≤ℤ◌, ◌<ℤ◌, int_le, int_lt, nat_le}
 use Rattle.std.specs.Prelude.{unsigned_abs}
 use Rattle.std.specs.List.{range_with_len, enumerate_from}
 use lib.IntN.{*ℤ-zero}
-use Rattle.std.proofs.lemmas.Bool.{cases_eq, cases_lt}
+use Rattle.std.proofs.lemmas.Bool.{and_parts, cases_eq, cases_lt}
 use Rattle.std.proofs.lemmas.Int.{ints, unsigned_abs-mul}
 use Rattle.std.proofs.Math.Nat.{mul-le-mul_right}
-use Rattle.aggregations.specs.declared.scale.Scale.{Scale}
-use Rattle.aggregations.specs.declared.scale.Scale.TheVariants.{Powers, Steps}
-use Rattle.aggregations.specs.declared.linear_range.LinearRange.{LinearRange}
+use Rattle.aggregations.specs.Vocabulary.{LinearRange, Scale, Powers, Steps}
 use Rattle.aggregations.specs.Ranges.{is_one_to}
 use Rattle.aggregations.specs.Buckets.{buckets, label, levels_of}
 use Rattle.aggregations.specs.Values.{total}
@@ -80,14 +78,6 @@ weight-front f k m rest are = total_more (λ b. label f b *ℤ pos (used_at ((k,
 
 -- ---- labels are small
 
-first_of : (s t : Bool) → (s && t) ≡ true → s ≡ true
-first_of true t e = refl
-first_of false t e = e
-
-second_of : (s t : Bool) → (s && t) ≡ true → t ≡ true
-second_of true t e = e
-second_of false t e = absurd cc
-
 pub power_small : (b : ℕ) → b < 127 → unsigned_abs (label Powers b) ≤ 2 ^ 62
 power_small b lt = at (cases_lt b 63) (cases_eq b 63)
   where
@@ -108,16 +98,14 @@ are_bounds lower upper = int_le (neg_ℤ (pos (2 ^ 31))) lower && int_lt lower u
 -- what a range keeps, as numbers
 pub range_known : (r : LinearRange) → (neg_ℤ (pos (2 ^ 31)) ≤ℤ r.lower) × (r.lower <ℤ pos (2 ^ 31)) × (r.step ≤ 65535) × (levels_of r ≤ 65535)
 range_known r =
-    let front = first_of (are_bounds r.lower r.upper && is_one_to 65535 r.step) (is_one_to 65535 (levels_of r)) r.in_range in
-    let bounds = first_of (are_bounds r.lower r.upper) (is_one_to 65535 r.step) front in
-    let lower_two = first_of (int_le (neg_ℤ (pos (2 ^ 31))) r.lower && int_lt r.lower r.upper) (int_lt r.upper (pos (2 ^ 31))) bounds in
-    let low = at_least (neg_ℤ (pos (2 ^ 31))) r.lower (first_of (int_le (neg_ℤ (pos (2 ^ 31))) r.lower) (int_lt r.lower r.upper) lower_two) in
-    let between = below r.lower r.upper (second_of (int_le (neg_ℤ (pos (2 ^ 31))) r.lower) (int_lt r.lower r.upper) lower_two) in
-    let high = below r.upper (pos (2 ^ 31)) (second_of (int_le (neg_ℤ (pos (2 ^ 31))) r.lower && int_lt r.lower r.upper) (int_lt r.upper (pos (2 ^ 31))) bounds) in (
-      low,
-      omega (arith, ints),
-      at_most r.step (second_of (nat_le 1 r.step) (nat_le r.step 65535) (second_of (are_bounds r.lower r.upper) (is_one_to 65535 r.step) front)),
-      at_most (levels_of r) (second_of (nat_le 1 (levels_of r)) (nat_le (levels_of r) 65535) (second_of (are_bounds r.lower r.upper && is_one_to 65535 r.step) (is_one_to 65535 (levels_of r)) r.in_range)),
+    let all = and_parts (are_bounds r.lower r.upper && is_one_to 65535 r.step) (is_one_to 65535 (levels_of r)) r.in_range in
+    let front = and_parts (are_bounds r.lower r.upper) (is_one_to 65535 r.step) all.0 in
+    let bounds = and_parts (int_le (neg_ℤ (pos (2 ^ 31))) r.lower && int_lt r.lower r.upper) (int_lt r.upper (pos (2 ^ 31))) front.0 in
+    let lower = and_parts (int_le (neg_ℤ (pos (2 ^ 31))) r.lower) (int_lt r.lower r.upper) bounds.0 in (
+      at_least (neg_ℤ (pos (2 ^ 31))) r.lower lower.0,
+      omega (arith, ints, below r.lower r.upper lower.1, below r.upper (pos (2 ^ 31)) bounds.1),
+      at_most r.step (and_parts (nat_le 1 r.step) (nat_le r.step 65535) front.1).1,
+      at_most (levels_of r) (and_parts (nat_le 1 (levels_of r)) (nat_le (levels_of r) 65535) all.1).1,
     )
   where
     at_least : (a b : ℤ) → int_le a b ≡ true → a ≤ℤ b
@@ -130,15 +118,11 @@ range_known r =
     at_most n e = search (rules, tests)
 
 pub level_small : (r : LinearRange) (b : ℕ) → b < levels_of r + 2 → unsigned_abs (label (Steps r) b) ≤ 2 ^ 62
-level_small r zero lt = let known = range_known r in let low = known.0 in let high = known.1 in omega (arith, ints)
+level_small r zero lt = let known = range_known r in omega (arith, ints, known.0, known.1)
 level_small r (suc i) lt =
     let known = range_known r in
-    let low = known.0 in
-    let high = known.1 in
-    let step = known.2 in
-    let levels = known.3 in
-    let p = steps_small i r.step (omega arith) (omega arith) in
-    omega (arith, ints)
+    let p = steps_small i r.step (omega (arith, known.3)) (omega (arith, known.2)) in
+    omega (arith, ints, known.0, known.1)
 
 pub label_small : (f : Scale) (b : ℕ) → b < buckets f → unsigned_abs (label f b) ≤ 2 ^ 62
 label_small Powers b lt = power_small b lt

@@ -1,5 +1,5 @@
 -- The first and the last bucket of a histogram that have arguments.
-use Rattle.std.proofs.Common.{◌≡◌, ℕ, ◌<◌, ◌≤◌, ◌⊎◌, inl, inr, min, max, List, [], ◌∷◌, Option}
+use Rattle.std.proofs.Common.{◌≡◌, ℕ, zero, suc, ◌<◌, ◌≤◌, ◌⊎◌, inl, inr, min, max, List, [], ◌∷◌, Option}
 use Rattle.std.proofs.Common.{None, Some, All, Contains, refl, sym, ap, ◌∙◌, subst, ⊎_elim, arith}
 use Rattle.std.proofs.Common.{sum, fold}
 use Rattle.std.specs.Prelude.{nat_eq, IsSome}
@@ -8,59 +8,45 @@ use Rattle.std.specs.Map.{lookup, keys_of}
 use Rattle.std.specs.Option.{unwrap_or}
 use Rattle.std.proofs.lemmas.Bool.{cases_lt, eqb-true}
 use Rattle.std.proofs.lemmas.Cmp.{nat_eq_equiv}
-use Rattle.std.proofs.lemmas.List.Elements.{All-contains, All-cons, All-nil, Contains-get_or}
-use Rattle.std.proofs.lemmas.List.Elements.{Contains-append_right}
+use Rattle.std.proofs.lemmas.List.Elements.{All-contains, All-cons, All-head, All-nil, All-tail}
+use Rattle.std.proofs.lemmas.List.Elements.{Contains-get_or}
+use Rattle.std.proofs.lemmas.Option.{same_Some}
 use Rattle.std.proofs.lemmas.Map.Views.{IsSome-lookup_from_Contains, Contains-keys_from_lookup}
 use Rattle.aggregations.specs.declared.scale.Scale.{Scale}
 use Rattle.aggregations.specs.Buckets.{buckets}
 use Rattle.aggregations.specs.Histograms.{used_at, counts_used, AreUsed, IsSpan}
 use Rattle.aggregations.proofs.HistogramLemmas.{count_kept, none_used}
 
-fold_min : (a : ℕ) (xs : List ℕ) → ((fold min a xs ≡ a) ⊎ Contains xs (fold min a xs)) × (fold min a xs ≤ a) × All (λ x. fold min a xs ≤ x) xs
-fold_min a [] = (inl refl, omega arith, All-nil (λ x. a ≤ x))
-fold_min a (x ∷ xs) =
-    let rest = fold_min (min a x) xs in (
-      ⊎_elim (λ (e : fold min (min a x) xs ≡ min a x). at e (cases_lt x a)) (λ (c : Contains xs (fold min (min a x) xs)). inr (Contains-append_right (x ∷ []) xs (fold min (min a x) xs) c)) rest.0,
-      (let le = rest.1 in omega arith),
-      All-cons (λ y. fold min (min a x) xs ≤ y) x xs (let le = rest.1 in omega arith) rest.2,
-    )
-  where
-    at : fold min (min a x) xs ≡ min a x → ((x < a) ⊎ (a ≤ x)) → (fold min (min a x) xs ≡ a) ⊎ Contains (x ∷ xs) (fold min (min a x) xs)
-    at e (inl lt) = inr (subst (Contains (x ∷ xs)) (let is : x ≡ fold min (min a x) xs = omega arith in is) (Contains-get_or (x ∷ xs) 0 x (omega arith)))
-    at e (inr le) = inl (omega arith)
+-- what picks one of two numbers, over a list
+module _ (f : ℕ → ℕ → ℕ) (R : ℕ → ℕ → Type 0) (itself : (x : ℕ) → R x x) (on : (x y z : ℕ) → R x y → R y z → R x z)
+    (picks : (a x : ℕ) → (f a x ≡ a) ⊎ (f a x ≡ x)) (bounds : (a x : ℕ) → R (f a x) a × R (f a x) x) where
+  folded : (a : ℕ) (xs : List ℕ) → Contains (a ∷ xs) (fold f a xs) × All (R (fold f a xs)) (a ∷ xs)
+  folded a [] = (Contains-get_or (a ∷ []) 0 a (omega arith), All-cons (R a) a [] (itself a) (All-nil (R a)))
+  folded a (x ∷ xs) =
+      let rest = folded (f a x) xs in
+      let r = fold f (f a x) xs in
+      let bound = All-head (R r) (f a x) xs rest.1 in (
+        at r rest.0 (picks a x),
+        All-cons (R r) a (x ∷ xs) (on r (f a x) a bound (bounds a x).0)
+            (All-cons (R r) x xs (on r (f a x) x bound (bounds a x).1) (All-tail (R r) (f a x) xs rest.1)),
+      )
+    where
+      at : (r : ℕ) → Contains (f a x ∷ xs) r → (f a x ≡ a) ⊎ (f a x ≡ x) → Contains (a ∷ x ∷ xs) r
+      at r (zero, lt, e) (inl p) = (0, omega arith, sym p ∙ e)
+      at r (zero, lt, e) (inr p) = (1, omega arith, sym p ∙ e)
+      at r (suc i, lt, e) p = (suc (suc i), omega (arith, lt), e)
 
-fold_max : (a : ℕ) (xs : List ℕ) → ((fold max a xs ≡ a) ⊎ Contains xs (fold max a xs)) × (a ≤ fold max a xs) × All (λ x. x ≤ fold max a xs) xs
-fold_max a [] = (inl refl, omega arith, All-nil (λ x. x ≤ a))
-fold_max a (x ∷ xs) =
-    let rest = fold_max (max a x) xs in (
-      ⊎_elim (λ (e : fold max (max a x) xs ≡ max a x). at e (cases_lt a x)) (λ (c : Contains xs (fold max (max a x) xs)). inr (Contains-append_right (x ∷ []) xs (fold max (max a x) xs) c)) rest.0,
-      (let le = rest.1 in omega arith),
-      All-cons (λ y. y ≤ fold max (max a x) xs) x xs (let le = rest.1 in omega arith) rest.2,
-    )
-  where
-    at : fold max (max a x) xs ≡ max a x → ((a < x) ⊎ (x ≤ a)) → (fold max (max a x) xs ≡ a) ⊎ Contains (x ∷ xs) (fold max (max a x) xs)
-    at e (inl lt) = inr (subst (Contains (x ∷ xs)) (let is : x ≡ fold max (max a x) xs = omega arith in is) (Contains-get_or (x ∷ xs) 0 x (omega arith)))
-    at e (inr le) = inl (omega arith)
+  reduced : (ks : List ℕ) (m : ℕ) → reduce f ks ≡ Some m → Contains ks m × All (R m) ks
+  reduced [] m e = absurd cc
+  reduced (k ∷ ks) m e = subst (λ n. Contains (k ∷ ks) n × All (R n) (k ∷ ks)) (same_Some _ m e) (folded k ks)
 
 least_key : (ks : List ℕ) (m : ℕ) → reduce min ks ≡ Some m → Contains ks m × All (λ x. m ≤ x) ks
-least_key [] m e = absurd cc
-least_key (k ∷ ks) m e =
-    let is : fold min k ks ≡ m = cc in
-    let all = fold_min k ks in
-    subst (λ n. Contains (k ∷ ks) n × All (λ x. n ≤ x) (k ∷ ks)) is (
-      ⊎_elim (λ (e : fold min k ks ≡ k). subst (Contains (k ∷ ks)) (sym e) (Contains-get_or (k ∷ ks) 0 k (omega arith))) (λ (c : Contains ks (fold min k ks)). Contains-append_right (k ∷ []) ks (fold min k ks) c) all.0,
-      All-cons (λ y. fold min k ks ≤ y) k ks all.1 all.2,
-    )
+least_key = reduced min (λ x y. x ≤ y) (λ x. omega arith) (λ x y z a b. omega (arith, a, b))
+    (λ a x. ⊎_elim (λ (lt : a < x). inl (omega arith)) (λ (le : x ≤ a). inr (omega arith)) (cases_lt a x)) (λ a x. (omega arith, omega arith))
 
 greatest_key : (ks : List ℕ) (m : ℕ) → reduce max ks ≡ Some m → Contains ks m × All (λ x. x ≤ m) ks
-greatest_key [] m e = absurd cc
-greatest_key (k ∷ ks) m e =
-    let is : fold max k ks ≡ m = cc in
-    let all = fold_max k ks in
-    subst (λ n. Contains (k ∷ ks) n × All (λ x. x ≤ n) (k ∷ ks)) is (
-      ⊎_elim (λ (e : fold max k ks ≡ k). subst (Contains (k ∷ ks)) (sym e) (Contains-get_or (k ∷ ks) 0 k (omega arith))) (λ (c : Contains ks (fold max k ks)). Contains-append_right (k ∷ []) ks (fold max k ks) c) all.0,
-      All-cons (λ y. y ≤ fold max k ks) k ks all.1 all.2,
-    )
+greatest_key = reduced max (λ x y. y ≤ x) (λ x. omega arith) (λ x y z a b. omega (arith, a, b))
+    (λ a x. ⊎_elim (λ (lt : a < x). inr (omega arith)) (λ (le : x ≤ a). inl (omega arith)) (cases_lt a x)) (λ a x. (omega arith, omega arith))
 
 -- no keys, no counts
 pub sum-no_keys : (f : Scale) (used : List (ℕ × ℕ)) → reduce min (keys_of used) ≡ None → sum (counts_used f used) ≡ 0

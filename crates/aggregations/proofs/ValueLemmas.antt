@@ -1,6 +1,6 @@
 -- Values of lists joined, and of lists with one more argument.
 use Rattle.std.proofs.Common.{◌≡◌, ◌≢◌, ◌≤◌, ℕ, ◌+◌, List, [], ◌∷◌, ◌++◌, length, refl, sym, ap}
-use Rattle.std.proofs.Common.{◌∙◌, subst, arith, length-append, sum, map, count_by, Some, None}
+use Rattle.std.proofs.Common.{◌∙◌, subst, arith, rules, length-append, sum, map, count_by, Some, None}
 use Rattle.std.specs.List.{range_with_len}
 use Rattle.std.proofs.lemmas.List.Sums.{sum_by-cons}
 use Rattle.std.specs.Prelude.{ℤ, ◌+ℤ◌, ◌≤ℤ◌, ◌<ℤ◌}
@@ -9,16 +9,13 @@ use mir.Syntax.{w64}
 use Rattle.std.proofs.lemmas.Int.{ints, clamps, int_wrap-add_left, int_wrap-add_right, by_lt_z}
 use Rattle.std.proofs.lemmas.List.Elements.{All-append, All-weaker, All-cons, All-nil}
 use Rattle.std.proofs.lemmas.List.Elements.{Contains-append_left, Contains-append_right}
-use Rattle.aggregations.specs.declared.function.AggFn.{AggFn}
-use Rattle.aggregations.specs.declared.function.AggFn.TheVariants.{Count, Sum, Min, Max, Avg}
-use Rattle.aggregations.specs.declared.function.AggFn.TheVariants.{Quantize, Lquantize}
-use Rattle.aggregations.specs.declared.scale.Scale.{Scale}
-use Rattle.aggregations.specs.declared.scale.Scale.TheVariants.{Powers, Steps}
+use Rattle.aggregations.specs.Vocabulary.{AggFn, Count, Sum, Min, Max, Avg, Quantize, Lquantize}
+use Rattle.aggregations.specs.Vocabulary.{Scale, Powers, Steps}
 use Rattle.aggregations.specs.declared.held.Held.{Held}
 use Rattle.aggregations.specs.declared.held.Held.TheVariants.{Counted, Summed, Least, Greatest}
 use Rattle.aggregations.specs.declared.held.Held.TheVariants.{Mean, Counts}
 use Rattle.aggregations.specs.Histograms.{Histogram, histogram_of}
-use Rattle.aggregations.specs.Buckets.{buckets, counts_of, is_in}
+use Rattle.aggregations.specs.Buckets.{buckets, counts_of, is_in, scale_of}
 use Rattle.aggregations.specs.Values.{total, IsValue}
 use Rattle.aggregations.proofs.Measures.{IsSum, IsLeast, IsGreatest}
 use Rattle.aggregations.specs.Steps.Values.{TakesOne}
@@ -32,7 +29,7 @@ pub total-append : (xs ys : List ℤ) → total (xs ++ ys) ≡ total xs +ℤ tot
 total-append [] ys = omega (arith, ints)
 total-append (x ∷ xs) ys = let more = total-append xs ys in omega (arith, ints)
 
-pub sum_joined : (s t : ℤ) (xs ys : List ℤ) → IsSum s xs → IsSum t ys → IsSum (int_wrap w64 (s +ℤ t)) (xs ++ ys)
+sum_joined : (s t : ℤ) (xs ys : List ℤ) → IsSum s xs → IsSum t ys → IsSum (int_wrap w64 (s +ℤ t)) (xs ++ ys)
 sum_joined s t xs ys a b =
     ap (λ z. int_wrap w64 (z +ℤ t)) a ∙ int_wrap-add_left w64 (total xs) t ∙ ap (λ z. int_wrap w64 (total xs +ℤ z)) b
     ∙ int_wrap-add_right w64 (total xs) (total ys) ∙ ap (int_wrap w64) (sym (total-append xs ys))
@@ -51,35 +48,19 @@ greatest_joined m n xs ys a b = by_lt_z m n
     (λ (le : n ≤ℤ m). let is : int_max m n ≡ m = omega (arith, ints, clamps) in
     subst (λ z. IsGreatest z (xs ++ ys)) (sym is) (Contains-append_left xs ys m a.0, All-append (λ x. x ≤ℤ m) xs ys a.1 (All-weaker (λ x. x ≤ℤ n) (λ x. x ≤ℤ m) (λ x h. omega (arith, ints)) ys b.1)))
 
-pub one_least : (x : ℤ) → IsLeast x (x ∷ [])
+one_least : (x : ℤ) → IsLeast x (x ∷ [])
 one_least x = ((0, omega arith, refl), All-cons (λ y. x ≤ℤ y) x [] (omega (arith, ints)) (All-nil (λ y. x ≤ℤ y)))
 
-pub one_greatest : (x : ℤ) → IsGreatest x (x ∷ [])
+one_greatest : (x : ℤ) → IsGreatest x (x ∷ [])
 one_greatest x = ((0, omega arith, refl), All-cons (λ y. y ≤ℤ x) x [] (omega (arith, ints)) (All-nil (λ y. y ≤ℤ x)))
 
 -- ---- one more argument, by what is held
 
-pub sum_noted : (s x : ℤ) (xs : List ℤ) → IsSum s xs → IsSum (int_wrap w64 (s +ℤ x)) (xs ++ x ∷ [])
+sum_noted : (s x : ℤ) (xs : List ℤ) → IsSum s xs → IsSum (int_wrap w64 (s +ℤ x)) (xs ++ x ∷ [])
 sum_noted s x xs a =
     let t = total-append xs (x ∷ []) in
     let e : total xs +ℤ x ≡ total (xs ++ x ∷ []) = omega (arith, ints) in
     ap (λ z. int_wrap w64 (z +ℤ x)) a ∙ int_wrap-add_left w64 (total xs) x ∙ ap (int_wrap w64) e
-
-pub summed_noted : (f : AggFn) (s x : ℤ) (xs : List ℤ) → IsValue f (Summed s) xs → IsValue f (Summed (int_wrap w64 (s +ℤ x))) (xs ++ x ∷ [])
-summed_noted Sum s x xs a = sum_noted s x xs a
-summed_noted _ s x xs a = absurd a
-
-pub smaller_noted : (f : AggFn) (s x : ℤ) (xs : List ℤ) → IsValue f (Least s) xs → IsValue f (Least (int_min s x)) (xs ++ x ∷ [])
-smaller_noted Min s x xs a = least_joined s x xs (x ∷ []) a (one_least x)
-smaller_noted _ s x xs a = absurd a
-
-pub greater_noted : (f : AggFn) (s x : ℤ) (xs : List ℤ) → IsValue f (Greatest s) xs → IsValue f (Greatest (int_max s x)) (xs ++ x ∷ [])
-greater_noted Max s x xs a = greatest_joined s x xs (x ∷ []) a (one_greatest x)
-greater_noted _ s x xs a = absurd a
-
-pub mean_noted : (f : AggFn) (s x : ℤ) (n : ℕ) (xs : List ℤ) → IsValue f (Mean (record { sum = s; count = n })) xs → IsValue f (Mean (record { sum = int_wrap w64 (s +ℤ x); count = n + 1 })) (xs ++ x ∷ [])
-mean_noted Avg s x n xs a = (sum_noted s x xs a.0, let h = a.1 in simp length-append (omega arith))
-mean_noted _ s x n xs a = absurd a
 
 pub counts_noted : (f : AggFn) (h new : Histogram) (x : ℤ) (xs : List ℤ)
     → ((args : List ℤ) → h ≡ histogram_of h.scale args → new ≡ histogram_of h.scale (args ++ x ∷ []))
@@ -98,40 +79,17 @@ none_in : (f : Scale) (bs : List ℕ) → sum (map (λ b. count_by (is_in f b) [
 none_in f [] = refl
 none_in f (b ∷ bs) = let more = none_in f bs in let e = sum_by-cons (λ x. x) 0 (map (λ b. count_by (is_in f b) []) bs) in omega arith
 
+-- a function with a scale makes histograms
+pub scaled_value : (f : AggFn) (scale : Scale) (h : Histogram) (args : List ℤ) → scale_of f ≡ Some scale → h ≡ histogram_of scale args → IsValue f (Counts h) args
+scaled_value Quantize scale h args e is = is ∙ ap (λ s. histogram_of s args) (sym (same_Some Powers scale e))
+scaled_value (Lquantize r) scale h args e is = is ∙ ap (λ s. histogram_of s args) (sym (same_Some (Steps r) scale e))
+scaled_value _ scale h args e is = absurd cc
+
 -- a histogram without arguments holds no counts
 pub sum-none : (f : Scale) → sum (counts_of f []) ≡ 0
 sum-none f = none_in f (range_with_len 0 (buckets f))
 
-pub counted_noted : (n : ℕ) (x : ℤ) → TakesOne (Counted n) x (Counted (n + 1))
-counted_noted n x Count xs is = simp length-append (omega arith)
-counted_noted n x _ xs is = absurd is
-
 -- ---- lists joined, by what is held
-
-pub counted_joined : (f : AggFn) (n : ℕ) (p : Held) (xs ys : List ℤ) → IsValue f (Counted n) xs → IsValue f p ys → IsValue f (Counted (n + count_of p)) (xs ++ ys)
-counted_joined Count n (Counted m) xs ys a b = simp length-append (omega arith)
-counted_joined Count n _ xs ys a b = absurd b
-counted_joined _ n p xs ys a b = absurd a
-
-pub summed_joined : (f : AggFn) (s : ℤ) (p : Held) (xs ys : List ℤ) → IsValue f (Summed s) xs → IsValue f p ys → IsValue f (Summed (int_wrap w64 (s +ℤ number_of p))) (xs ++ ys)
-summed_joined Sum s (Summed t) xs ys a b = sum_joined s t xs ys a b
-summed_joined Sum s _ xs ys a b = absurd b
-summed_joined _ s p xs ys a b = absurd a
-
-pub smaller_joined : (f : AggFn) (s : ℤ) (p : Held) (xs ys : List ℤ) → IsValue f (Least s) xs → IsValue f p ys → IsValue f (Least (int_min s (number_of p))) (xs ++ ys)
-smaller_joined Min s (Least t) xs ys a b = least_joined s t xs ys a b
-smaller_joined Min s _ xs ys a b = absurd b
-smaller_joined _ s p xs ys a b = absurd a
-
-pub greater_joined : (f : AggFn) (s : ℤ) (p : Held) (xs ys : List ℤ) → IsValue f (Greatest s) xs → IsValue f p ys → IsValue f (Greatest (int_max s (number_of p))) (xs ++ ys)
-greater_joined Max s (Greatest t) xs ys a b = greatest_joined s t xs ys a b
-greater_joined Max s _ xs ys a b = absurd b
-greater_joined _ s p xs ys a b = absurd a
-
-pub mean_joined : (f : AggFn) (s : ℤ) (n : ℕ) (p : Held) (xs ys : List ℤ) → IsValue f (Mean (record { sum = s; count = n })) xs → IsValue f p ys → IsValue f (Mean (record { sum = int_wrap w64 (s +ℤ number_of p); count = n + count_of p })) (xs ++ ys)
-mean_joined Avg s n (Mean m) xs ys a b = (sum_joined s m.sum xs ys a.0 b.0, let x = a.1 in let y = b.1 in simp length-append (omega arith))
-mean_joined Avg s n _ xs ys a b = absurd b
-mean_joined _ s n p xs ys a b = absurd a
 
 pub both_as : (old other new p q : Held) → old ≡ p → new ≡ q → TakesBoth p other q → TakesBoth old other new
 both_as old other new p q was is takes =
@@ -166,20 +124,22 @@ only_counts _ h other xs ys none a b = a
 -- ---- what is held after more, where that is no histogram
 
 pub one_after : (p : Held) (x : ℤ) → ((h : Histogram) → p ≡ Counts h → ⊥) → TakesOne p x (after p x 1)
-one_after (Counted n) x number f xs is = counted_noted n x f xs is
-one_after (Summed s) x number f xs is = summed_noted f s x xs is
-one_after (Least m) x number f xs is = smaller_noted f m x xs is
-one_after (Greatest m) x number f xs is = greater_noted f m x xs is
-one_after (Mean m) x number f xs is = mean_noted f m.sum x m.count xs is
 one_after (Counts h) x number f xs is = absurd (number h refl)
+one_after (Counted n) x number Count xs is = simp length-append (omega arith)
+one_after (Summed s) x number Sum xs is = sum_noted s x xs is
+one_after (Least m) x number Min xs is = least_joined m x xs (x ∷ []) is (one_least x)
+one_after (Greatest m) x number Max xs is = greatest_joined m x xs (x ∷ []) is (one_greatest x)
+one_after (Mean m) x number Avg xs is = (sum_noted m.sum x xs is.0, let h = is.1 in simp length-append (omega arith))
+one_after _ x number _ xs is = absurd is
 
 pub both_after : (p q : Held) → ((h : Histogram) → p ≡ Counts h → ⊥) → TakesBoth p q (after p (number_of q) (count_of q))
-both_after (Counted n) q number f xs ys a b = counted_joined f n q xs ys a b
-both_after (Summed s) q number f xs ys a b = summed_joined f s q xs ys a b
-both_after (Least m) q number f xs ys a b = smaller_joined f m q xs ys a b
-both_after (Greatest m) q number f xs ys a b = greater_joined f m q xs ys a b
-both_after (Mean m) q number f xs ys a b = mean_joined f m.sum m.count q xs ys a b
 both_after (Counts h) q number f xs ys a b = absurd (number h refl)
+both_after (Counted n) (Counted m) number Count xs ys a b = simp length-append (omega arith)
+both_after (Summed s) (Summed t) number Sum xs ys a b = sum_joined s t xs ys a b
+both_after (Least m) (Least n) number Min xs ys a b = least_joined m n xs ys a b
+both_after (Greatest m) (Greatest n) number Max xs ys a b = greatest_joined m n xs ys a b
+both_after (Mean m) (Mean n) number Avg xs ys a b = (sum_joined m.sum n.sum xs ys a.0 b.0, let x = a.1 in let y = b.1 in simp length-append (omega arith))
+both_after _ _ number _ xs ys a b = absurd (search rules)
 
 pub count_after : (p : Held) (x : ℤ) (k : ℕ) → count_in (after p x k) ≤ count_in p + k
 count_after (Counted n) x k = omega arith

@@ -1,7 +1,6 @@
 //! What an entry holds of its arguments.
 
-ghost use Rattle.std.specs.Prelude.{◌≡◌, ◌+◌, ◌≤◌, ◌^◌, option_copied};
-ghost use Rattle.aggregations.specs.Figures.{figure_of, histogram_in};
+ghost use Rattle.std.specs.Prelude.{◌≡◌, ◌+◌, ◌≤◌, ◌^◌};
 ghost use Rattle.aggregations.specs.Steps.Held as spec;
 
 use crate::histogram::Histogram;
@@ -68,20 +67,6 @@ impl Held {
                 mean.count += count;
             }
             Held::Counts(_) => {}
-        }
-    }
-
-    // How many were in each bucket, if that is held.
-    pub(crate) fn histogram(&self) -> Option<&Histogram>
-        ensures { option_copied result ≡ histogram_in (figure_of self.now) }
-    {
-        match self {
-            Held::Counts(histogram) => Some(histogram),
-            Held::Counted(_)
-            | Held::Summed(_)
-            | Held::Least(_)
-            | Held::Greatest(_)
-            | Held::Mean(_) => None,
         }
     }
 }

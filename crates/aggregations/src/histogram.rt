@@ -1,10 +1,10 @@
 //! Histograms.
 
 ghost use Rattle.std.specs.Prelude.{◌≡◌, ◌+◌, ◌<◌, ◌≤◌, ◌^◌, ℤ, OnOk, OnErr, MatchOption, List, []};
-ghost use Rattle.std.specs.Prelude.{◌∷◌, ◌++◌, None, Some, length, nat_eq, slice_index, sum, true};
-ghost use Rattle.indexmap.specs.IndexMap.{get, IsUnique, Updates};
+ghost use Rattle.std.specs.Prelude.{◌∷◌, ◌++◌, Some, length, nat_eq, slice_index, sum, true};
+ghost use Rattle.indexmap.specs.IndexMap.{IsUnique, Updates};
 ghost use Rattle.aggregations.specs.Histograms.{used_at};
-ghost use Rattle.aggregations.specs.Steps.Histograms.{IsBucketAt};
+ghost use Rattle.aggregations.specs.Vocabulary.{AllOrNothing, IsAt, IsFound};
 
 use crate::scale::Scale;
 use indexmap::IndexMap;
@@ -121,8 +121,8 @@ impl Histogram {
         requires bucket { bucket < buckets self.old.scale }
         requires some { 0 < more }
         requires room { sum self.old.counts + more ≤ 2 ^ 52 }
-        ensures ok { OnOk result (self.new ≡ with_more self.old bucket more) }
-        ensures err { OnErr result (self.new ≡ self.old) }
+        ensures { AllOrNothing result self.old self.new
+            (self.new ≡ with_more self.old bucket more) }
     {
         put_more(&mut self.used, bucket, more)
     }
@@ -130,12 +130,11 @@ impl Histogram {
     // Takes one more argument.
     pub(crate) fn note(&mut self, arg: i64) -> Result<(), AllocError>
         requires { sum self.old.counts < 2 ^ 52 }
-        ensures value { OnOk result ((args : List ℤ)
+        ensures value { AllOrNothing result self.old self.new ((args : List ℤ)
             → self.old ≡ histogram_of self.old.scale args
             → self.new ≡ histogram_of self.old.scale (args ++ arg ∷ [])) }
         ensures scale { self.new.scale ≡ self.old.scale }
         ensures count { sum self.new.counts ≤ sum self.old.counts + 1 }
-        ensures err { OnErr result (self.new ≡ self.old) }
     {
         let bucket = self.scale.bucket_of(arg);
         self.add(bucket, 1)
@@ -177,8 +176,7 @@ fn put_more(used: &mut IndexMap<u32, u64>, bucket: u32, more: u64) -> Result<(),
 
 // The index of the bucket's count.
 fn index_of(used: &IndexMap<u32, u64>, bucket: u32) -> Option<usize>
-    ensures { MatchOption result (get nat_eq used.now bucket ≡ None)
-        (λ i. IsBucketAt used.now.entries i bucket) }
+    ensures { IsFound nat_eq used.now.entries bucket result }
 {
     for index in 0..used.len().min(MAX_COMPARED) {
         if is_at(used, index, bucket) {
@@ -191,8 +189,7 @@ fn index_of(used: &IndexMap<u32, u64>, bucket: u32) -> Option<usize>
 // The index of the bucket's count, by its hash.
 #[inline(never)]
 fn index_by_hash(used: &IndexMap<u32, u64>, bucket: u32) -> Option<usize>
-    ensures { MatchOption result (get nat_eq used.now bucket ≡ None)
-        (λ i. IsBucketAt used.now.entries i bucket) }
+    ensures { IsFound nat_eq used.now.entries bucket result }
 {
     let (index, _, _) = used.get_full(&bucket)?;
     Some(index)
@@ -200,7 +197,7 @@ fn index_by_hash(used: &IndexMap<u32, u64>, bucket: u32) -> Option<usize>
 
 // Whether the bucket's count has this index.
 fn is_at(used: &IndexMap<u32, u64>, index: usize, bucket: u32) -> bool
-    ensures { result ≡ true → IsBucketAt used.now.entries index bucket }
+    ensures { result ≡ true → IsAt nat_eq used.now.entries index bucket }
 {
     match used.get_index(index) {
         Some((there, _)) => *there == bucket,

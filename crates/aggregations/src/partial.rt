@@ -1,12 +1,11 @@
 //! Entries: a value made from the arguments that came.
 
-ghost use Rattle.std.specs.Prelude.{◌≡◌, ◌+◌, ◌<◌, ◌≤◌, ◌^◌, ◌∷◌, [], IfOk, OnOk, OnErr};
+ghost use Rattle.std.specs.Prelude.{◌≡◌, ◌+◌, ◌<◌, ◌≤◌, ◌^◌, ◌∷◌, [], IfOk, OnOk};
 ghost use Rattle.std.specs.Prelude.{option_copied};
 
 use crate::function::AggFn;
 use crate::held::{Held, Mean};
 use crate::histogram::Histogram;
-use crate::scale::Scale;
 use std::alloc::{AllocError, Global};
 use std::marker::Model;
 
@@ -29,46 +28,38 @@ impl Model for Partial {
 impl Partial {
     ghost use Rattle.aggregations.specs.Figures.{count_at, figure_of, histogram_in, mean_in};
     ghost use Rattle.aggregations.specs.Figures.{rank_of, single_in};
-    ghost use Rattle.aggregations.specs.Histograms.{histogram_of};
+    ghost use Rattle.aggregations.specs.Vocabulary.{AllOrNothing};
     ghost use Rattle.aggregations.specs.Values.{IsValue, count_in};
     ghost use Rattle.aggregations.specs.Steps.Values.{TakesBoth, TakesOne};
-    ghost use Rattle.aggregations.specs.declared.held.Held.TheVariants.{Counts};
 
     // The value of one argument.
     pub(crate) fn of_one(alloc: Global, function: AggFn, arg: i64) -> Result<Partial, AllocError>
         ensures value { IfOk result (λ p. IsValue function p (arg ∷ [])) }
         ensures count { IfOk result (λ p. count_in p ≤ 1) }
     {
+        if let Some(scale) = function.scale() {
+            let mut histogram = Histogram::new(alloc, scale);
+            histogram.note(arg)?;
+            return Ok(Partial {
+                held: Held::Counts(histogram),
+            });
+        }
         let held = match function {
             AggFn::Count => Held::Counted(1),
             AggFn::Sum => Held::Summed(arg),
             AggFn::Min => Held::Least(arg),
             AggFn::Max => Held::Greatest(arg),
             AggFn::Avg => Held::Mean(Mean { sum: arg, count: 1 }),
-            AggFn::Quantize => return Partial::of_scale(alloc, Scale::Powers, arg),
-            AggFn::Lquantize(range) => return Partial::of_scale(alloc, Scale::Steps(range), arg),
+            AggFn::Quantize | AggFn::Lquantize(_) => unreachable!(),
         };
         Ok(Partial { held })
-    }
-
-    // The histogram of one argument.
-    fn of_scale(alloc: Global, scale: Scale, arg: i64) -> Result<Partial, AllocError>
-        ensures value { IfOk result (λ p. p ≡ Counts (histogram_of scale (arg ∷ []))) }
-        ensures count { IfOk result (λ p. count_in p ≤ 1) }
-    {
-        let mut histogram = Histogram::new(alloc, scale);
-        histogram.note(arg)?;
-        Ok(Partial {
-            held: Held::Counts(histogram),
-        })
     }
 
     // Takes one more argument.
     pub(crate) fn note(&mut self, arg: i64) -> Result<(), AllocError>
         requires { count_in self.old < 2 ^ 52 }
-        ensures value { OnOk result (TakesOne self.old arg self.new) }
+        ensures value { AllOrNothing result self.old self.new (TakesOne self.old arg self.new) }
         ensures count { count_in self.new ≤ count_in self.old + 1 }
-        ensures err { OnErr result (self.new ≡ self.old) }
     {
         if let Held::Counts(histogram) = &mut self.held {
             return histogram.note(arg);
@@ -83,14 +74,13 @@ impl Partial {
         ensures value { OnOk result (TakesBoth self.old other.now self.new) }
         ensures count { count_in self.new ≤ count_in self.old + count_in other.now }
     {
-        let other = &other.held;
         if let Held::Counts(histogram) = &mut self.held {
-            return match other.histogram() {
-                Some(more) => histogram.join(more),
-                None => Ok(()),
+            let Some(more) = other.histogram() else {
+                return Ok(());
             };
+            return histogram.join(more);
         }
-        self.held.take(other.number(), other.count());
+        self.held.take(other.held.number(), other.held.count());
         Ok(())
     }
 
@@ -140,7 +130,14 @@ impl Partial {
     pub fn histogram(&self) -> Option<&Histogram>
         ensures { option_copied result ≡ histogram_in (figure_of self.now) }
     {
-        self.held.histogram()
+        match &self.held {
+            Held::Counts(histogram) => Some(histogram),
+            Held::Counted(_)
+            | Held::Summed(_)
+            | Held::Least(_)
+            | Held::Greatest(_)
+            | Held::Mean(_) => None,
+        }
     }
 
     /// How many arguments a bucket of the histogram has: 0 if the entry shows a number.

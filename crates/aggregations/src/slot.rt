@@ -1,7 +1,6 @@
 //! An aggregation's slot in a table.
 
-ghost use Rattle.std.specs.Prelude.{◌≡◌, ◌+◌, ◌<◌, ◌≤◌, ◌^◌, [], map, IfOk, IfSome, IsNone, OnOk};
-ghost use Rattle.std.specs.Prelude.{OnErr};
+ghost use Rattle.std.specs.Prelude.{◌≡◌, ◌+◌, ◌<◌, ◌≤◌, ◌^◌, [], IfSome, IsNone};
 
 use crate::entries::Entries;
 use crate::function::AggFn;
@@ -39,7 +38,6 @@ impl Model for Slot {
 
 impl Slot {
     ghost use Rattle.aggregations.specs.{Table.count_of, Table.key_made};
-    ghost use Rattle.aggregations.specs.Vocabulary.{IsDistinct, deref_pair, keys_of, same_key};
     ghost use Rattle.aggregations.specs.Steps.Entries.{Adds, Merges};
 
     /// An aggregation without entries.
@@ -120,17 +118,6 @@ impl Slot {
                 self.entries = Some(more);
                 Ok(())
             }
-        }
-    }
-
-    /// The entries, in no promised order.
-    pub(crate) fn list(&self, alloc: Global) -> Result<Vec<(&Key, &Partial)>, AllocError>
-        ensures entries { IfOk result (λ es. map deref_pair es.items ≡ self.now.entries) }
-        ensures once { IsDistinct same_key (keys_of self.now.entries) }
-    {
-        match &self.entries {
-            Some(entries) => entries.list(alloc),
-            None => Ok(Vec::new(alloc)),
         }
     }
 

@@ -1,10 +1,11 @@
 -- What a change does to the entries of one aggregation.
-use Rattle.std.specs.Prelude.{◌≡◌, ◌+◌, ◌≤◌, ⊤, Bool, false, List, [], ◌∷◌, ◌++◌, ℤ, Option, Result}
-use Rattle.std.specs.Prelude.{IfOk, IsFalse, IsTrue, OnErr, OnOk}
+use Rattle.std.specs.Prelude.{◌≡◌, ◌+◌, ◌≤◌, ⊤, false, List, [], ◌∷◌, ◌++◌, ℤ, Option, Some, Result}
+use Rattle.std.specs.Prelude.{OnErr, OnOk}
 use Rattle.std.specs.declared.alloc.AllocError.{AllocError}
 use Rattle.aggregations.specs.Vocabulary.{AggFn, KeyPart, same_key}
 use Rattle.aggregations.specs.declared.held.Held.{Held}
 use Rattle.aggregations.specs.Table.{Aggregation, IsEntry, count_of, entry_at}
+use Rattle.aggregations.specs.Values.{count_in}
 
 -- whatever arguments the old entry and the other are made of, the new one is made of both
 abbrev pub Joins : AggFn → (old other new : Option Held) → Type 0
@@ -42,14 +43,12 @@ pub record Adds (old new : Aggregation) (key : List KeyPart) (arg : ℤ) (r : Re
   pub count : count_of new ≤ count_of old + 1
   pub err : OnErr r (new ≡ old)
 
--- the same, if the key's entry is found, which is returned; otherwise nothing changed
-pub record AddsIfFound (old new : Aggregation) (key : List KeyPart) (arg : ℤ)
-    (r : Result Bool AllocError) : Type 0 where
+-- the arguments of one more entry for the key
+pub record Takes (old new : Aggregation) (key : List KeyPart) (more : Held)
+    (r : Result ⊤ AllocError) : Type 0 where
   pub function : new.function ≡ old.function
-  pub noted : IfOk r (λ found. IsTrue found → TakesArgument old new key arg)
-  pub absent : IfOk r (λ found. IsFalse found → new ≡ old)
-  pub count : count_of new ≤ count_of old + 1
-  pub err : OnErr r (new ≡ old)
+  pub ok : OnOk r (Puts old new key (Joins old.function (entry_at key old) (Some more)))
+  pub count : count_of new ≤ count_of old + count_in more
 
 -- the arguments of all entries of another aggregation too
 pub record Merges (old other new : Aggregation) (r : Result ⊤ AllocError) : Type 0 where

@@ -20,8 +20,8 @@ pub overflow_add-count : goal.overflow_add-count
 overflow_add-count c =
     let at = c.in-Some.ensures in
     let found = c.pair_mut-count.result in
-    let same = same_pair _ _ found.1.now at.count (sym c.pair_mut-count.ensures.value ∙ at.entry) in
-    let is : used_at c.args.used.now.entries c.args.bucket ≡ at.count = ap (λ o. unwrap_or o 0) at.found in
+    let same = same_pair _ _ found.1.now at.held (sym c.pair_mut-count.ensures.value ∙ at.entry) in
+    let is : used_at c.args.used.now.entries c.args.bucket ≡ at.held = ap (λ o. unwrap_or o 0) at.found in
     let room = c.requires in
     omega arith
 
@@ -32,10 +32,10 @@ returns-clause-ok c =
     let i = c.in-Some.index in
     let found = c.pair_mut-count.result in
     let now = found.1.now + c.args.more in
-    let same = same_pair _ _ found.1.now at.count (sym c.pair_mut-count.ensures.value ∙ at.entry) in
-    let is : used_at used.entries c.args.bucket ≡ at.count = ap (λ o. unwrap_or o 0) at.found in
+    let same = same_pair _ _ found.1.now at.held (sym c.pair_mut-count.ensures.value ∙ at.entry) in
+    let is : used_at used.entries c.args.bucket ≡ at.held = ap (λ o. unwrap_or o 0) at.found in
     subst (λ n. Updates nat_eq used (with_value_at used i now) c.args.bucket (Some (n + c.args.more))) (same ∙ sym is)
-    (updates-with_value_at used i now nat_eq_equiv c.pair_mut-count.ensures.unique c.args.bucket at.count at.entry)
+    (updates-with_value_at used i now nat_eq_equiv c.pair_mut-count.ensures.unique c.args.bucket at.held at.entry)
 
 pub returns-clause-unique : goal.returns-clause-unique
 returns-clause-unique c =

@@ -14,5 +14,5 @@ loop-key-preserved c =
     let rest = c.next.new.self in
     let front : c.loop-key.key-iterator ≡ (key, more) ∷ rest = search rules in
     let m = subst (λ l. Merging first all l now) front c.loop-key.invariant in
-    let puts = subst (λ g. Puts now c.take.new.self key (Joins g (entry_at key now) (Some more))) c.loop-key.invariant.function c.in_ok-take.ensures.taken in
+    let puts = subst (λ g. Puts now c.take.new.self key (Joins g (entry_at key now) (Some more))) c.loop-key.invariant.function c.in_ok-take.ensures.ok in
     merging_more first all now c.take.new.self key more rest m c.take.ensures.function c.take.ensures.count puts

@@ -10,24 +10,24 @@ use Rattle.aggregations.proofs.TableLemmas.{sum_pushed}
 use Rattle.aggregations.proofs.MergeLemmas.{joins_first}
 use Rattle.aggregations.proofs.entries.Entries.take.Goals as goal
 
-pub returns-in_ok-insert-in-Ok-false : goal.returns-in_ok-insert-in-Ok-false
-returns-in_ok-insert-in-Ok-false c =
+pub returns : goal.returns
+returns c =
     let key = c.args.key in
     let more = c.args.more in
     let now = c.args.self.now in
     let map = c.self.inside.map in
     let entries = c.insert.new.self.entries in
-    let absent = c.in-Ok-false.ensures.absent (search rules) in
-    let is = c.self.view_is ∙ absent.1 in
-    let up = c.in_ok-insert-in-Ok-false.ensures.updates.0 in
+    let absent = c.in_default.ensures in
+    let is = c.self.view_is in
+    let up = c.in_ok-insert.ensures.updates.0 in
     let there : lookup (same_key key) entries ≡ Some more = up key ∙ ap (λ b. cond b (Some more) (lookup (same_key key) map.entries)) (same_key_equiv.refl key) in
-    let joins = subst (λ o. Joins now.function o (Some more) (Some more)) (sym absent.0) (joins_first now.function more) in
-    let gone : lookup (same_key key) map.entries ≡ None = ap (entry_at key) is ∙ absent.0 in
-    let sums = sum_pushed map.entries entries key more (c.in_ok-insert-in-Ok-false.ensures.entries ∙ insert_entry-new same_key map key more gone) in
+    let joins = subst (λ o. Joins now.function o (Some more) (Some more)) (sym absent) (joins_first now.function more) in
+    let gone : lookup (same_key key) map.entries ≡ None = ap (entry_at key) is ∙ absent in
+    let sums = sum_pushed map.entries entries key more (c.in_ok-insert.ensures.entries ∙ insert_entry-new same_key map key more gone) in
     let kept : sum_by count_in (values_of map.entries) ≡ sum_by count_in (values_of now.entries) = ap (λ a. sum_by count_in (values_of a.entries)) is in
     record {
       function = search rules;
-      taken = record {
+      ok = record {
         here = subst (λ o. Joins now.function (entry_at key now) (Some more) o) (sym there) joins;
         others = λ q e. up q ∙ ap (λ b. cond b (Some more) (lookup (same_key q) map.entries)) e ∙ ap (entry_at q) is;
       };

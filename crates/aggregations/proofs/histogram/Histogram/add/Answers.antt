@@ -1,6 +1,6 @@
 use Rattle.std.specs.Prelude.{Result, Ok, Err, OnOk, OnErr}
 use Rattle.std.proofs.Common.{◌+◌, ◌<◌, ◌≤◌, ◌^◌, sym, subst, ap, ◌∙◌, sum, arith}
-use Rattle.std.proofs.lemmas.Result.{on_ok_weaker}
+use Rattle.std.proofs.lemmas.Result.{on_err_weaker, on_ok_weaker}
 use Rattle.aggregations.specs.Buckets.{buckets}
 use Rattle.aggregations.specs.Histograms.{AreUsed, used_at, counts_used}
 use Rattle.aggregations.specs.Steps.Histograms.{with_more}
@@ -32,12 +32,15 @@ invariant_of-self c =
     (λ updates unique. kept_put f used new k more within c.requires.some c.self.invariant room updates.0 unique)
     (λ same. subst (AreUsed f) (sym same) c.self.invariant)
 
-pub returns-clause-ok : goal.returns-clause-ok
-returns-clause-ok c =
+pub returns : goal.returns
+returns c =
     let k = c.args.bucket in
     let more = c.args.more in
     let f = c.self.inside.scale in
     let used = c.self.inside.used.entries in
     let new = c.put_more.new.used.entries in
     let within : k < buckets f = subst (λ h. k < buckets h.scale) (sym c.self.view_is) c.requires.bucket in
-    on_ok_weaker c.put_more.result (λ updates. put_used f used new k more within updates.0 ∙ ap (λ h. with_more h k more) c.self.view_is) c.put_more.ensures.ok
+    record {
+      ok = on_ok_weaker c.put_more.result (λ updates. put_used f used new k more within updates.0 ∙ ap (λ h. with_more h k more) c.self.view_is) c.put_more.ensures.ok;
+      err = on_err_weaker c.put_more.result (λ same. ap (λ es. record { scale = f; counts = counts_used f es }) same ∙ c.self.view_is) c.put_more.ensures.err;
+    }

@@ -14,4 +14,7 @@ returns-clause-value c =
     let only = simp to_z-of_z at c.bucket_of-bucket.ensures.only in
     let only_one = subst (λ f. (b : ℕ) → b < buckets f → is_in f b c.args.arg ≡ (b == k)) same only in
     let within = subst (λ f. k < buckets f) same c.bucket_of-bucket.ensures.within in
-    on_ok_weaker c.add.result (λ is args was. histogram_noted old.scale old c.add.new.self k c.args.arg args within only_one was is) c.add.ensures.ok
+    record {
+      ok = on_ok_weaker c.add.result (λ is args was. histogram_noted old.scale old c.add.new.self k c.args.arg args within only_one was is) c.add.ensures.ok;
+      err = c.add.ensures.err;
+    }

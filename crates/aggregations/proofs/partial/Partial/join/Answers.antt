@@ -1,4 +1,4 @@
-use Rattle.std.proofs.Common.{◌≡◌, OnOk, Some, None, rules, sym, subst, ap, ◌∙◌}
+use Rattle.std.proofs.Common.{◌≡◌, Some, None, rules, refl, sym, subst, ap, ◌∙◌}
 use Rattle.std.specs.Prelude.{FitsSigned}
 use mir.Syntax.{w64}
 use Rattle.std.proofs.lemmas.Int.{to_z-of_z}
@@ -7,32 +7,28 @@ use Rattle.aggregations.specs.declared.held.Held.TheVariants.{Counts}
 use Rattle.aggregations.specs.Figures.{figure_of, histogram_in}
 use Rattle.aggregations.specs.Steps.Held.{after, count_of, number_of}
 use Rattle.aggregations.specs.Values.{IsValue}
-use Rattle.aggregations.specs.Steps.Values.{TakesBoth}
 use Rattle.aggregations.proofs.ValueLemmas.{both_after, both_as, counts_joined, only_counts}
 use Rattle.aggregations.proofs.ValueLemmas.{held_histogram, no_histogram}
 use Rattle.aggregations.proofs.partial.Partial.join.Goals as goal
-use Rattle.aggregations.proofs.partial.Partial.join.Goals.{in-Some, in-None}
+
+pub returns-in_default-histogram-clause-value : goal.returns-in_default-histogram-clause-value
+returns-in_default-histogram-clause-value c =
+    let other = c.args.other.now in
+    let h = c.in-Counts.histogram in
+    let none : histogram_in (figure_of other) ≡ None = search rules in
+    λ f xs ys a b. absurd (only_counts f h other xs ys (no_histogram other none) (subst (λ p. IsValue f p xs) (sym c.self.view_is ∙ c.in-Counts.is) a) b)
 
 pub returns-in-Counts-clause-value : goal.returns-in-Counts-clause-value
 returns-in-Counts-clause-value c =
     let old = c.args.self.now in
     let other = c.args.other.now in
-    let new = c.match-histogram.self-inside.held in
     let h = c.in-Counts.histogram in
-    elim c.match-histogram.branch [
-      | in-Some w ↦
-          let more = w.in-Some.more.now in
-          let held : histogram_in (figure_of other) ≡ Some more = search rules in
-          let is : other ≡ Counts more = held_histogram other more held in
-          subst (λ r. OnOk r (TakesBoth old other new)) (sym w.result-is)
-          (on_ok_weaker w.join.result (λ step. both_as old other new (Counts h) (Counts w.join.new.self) (sym c.self.view_is ∙ c.in-Counts.is)
-          (ap (λ p. p.held) w.self-inside-is) (λ f xs ys a b. counts_joined f h more w.join.new.self xs ys step a (subst (λ p. IsValue f p ys) is b))) w.join.ensures.value)
-      | in-None w ↦
-          let none : histogram_in (figure_of other) ≡ None = search rules in
-          subst (λ r. OnOk r (TakesBoth old other new)) (sym w.result-is)
-          (both_as old other new (Counts h) (Counts h) (sym c.self.view_is ∙ c.in-Counts.is) (ap (λ p. p.held) w.self-inside-is)
-          (λ f xs ys a b. absurd (only_counts f h other xs ys (no_histogram other none) a b)))
-    ]
+    let more = c.in-Some.more.now in
+    let now = c.join.new.self in
+    let held : histogram_in (figure_of other) ≡ Some more = search rules in
+    let is : other ≡ Counts more = held_histogram other more held in
+    on_ok_weaker c.join.result (λ step. both_as old other (Counts now) (Counts h) (Counts now) (sym c.self.view_is ∙ c.in-Counts.is) refl
+    (λ f xs ys a b. counts_joined f h more now xs ys step a (subst (λ p. IsValue f p ys) is b))) c.join.ensures.value
 
 pub returns-clause-value : goal.returns-clause-value
 returns-clause-value c =
