@@ -1,12 +1,10 @@
 -- What is set, before and after.
 use Rattle.std.specs.Prelude.{◌≡◌, ℕ, zero, suc, Bool, true, false, ◌&&◌, if◌then◌else◌, List, []}
-use Rattle.std.specs.Prelude.{◌∷◌, Option, None, Some, unwrap_or, option_map, slice_get, Result, Ok}
+use Rattle.std.specs.Prelude.{◌∷◌, Option, None, Some, unwrap_or, slice_get, Result, Ok}
 use Rattle.std.specs.Prelude.{Err, OnOk, OnErr}
 use Rattle.std.proofs.Common.{refl, sym, ap, ◌∙◌, subst, true≢false}
-use Rattle.std.specs.Map.{lookup, lookup_key, values_of}
+use Rattle.std.specs.Map.{lookup}
 use Rattle.indexmap.specs.Layout.{set_value_at}
-use Rattle.std.proofs.lemmas.Map.Made.{lookup_key_same}
-use Rattle.std.proofs.lemmas.Option.{slice_get-map}
 use Rattle.d_values.specs.Vocabulary.{KeyPart, Kind, Value, Var}
 use Rattle.d_values.specs.declared.value.Kind.TheVariants as k
 use Rattle.d_values.specs.declared.value.Value.TheVariants.{Int, Text}
@@ -143,30 +141,8 @@ sets_by old new var key value is puts holds v k =
     chosen true same = holds k ∙ ap (λ w. if same_key key k then value else value_at old w k) (same refl)
     chosen false other = refl
 
--- ---- entries by their index
-
-pub key_found : {X : Type 0} (var k : Var) (entries : List (Var × X)) → lookup_key (same_var var) entries ≡ Some k → var ≡ k
-key_found var k entries e = lookup_key_same same_var_decides var entries k e
-
-pub value_found : (entries : List (Var × Held)) (i : ℕ) (var : Var) (value : Held) → slice_get entries i ≡ Some (var, value)
-    → slice_get (values_of entries) i ≡ Some value
-value_found entries i var value e = slice_get-map (λ p. p.1) entries i ∙ ap (λ o. option_map (λ p. p.1) o) e
-
 -- ---- by whether memory was refused
-
-pub on_ok : {X E P Q : Type 0} (r : Result X E) → OnOk r P → (P → Q) → OnOk r Q
-on_ok (Ok v) p f = f p
-on_ok (Err e) p f = p
-
-pub on_err : {X E P Q : Type 0} (r : Result X E) → OnErr r P → (P → Q) → OnErr r Q
-on_err (Ok v) p f = p
-on_err (Err e) p f = f p
 
 pub on_either : {X E P Q R : Type 0} (r : Result X E) → OnOk r P → OnErr r Q → (P → R) → (Q → R) → R
 on_either (Ok v) p q f g = f p
 on_either (Err e) p q f g = g q
-
--- ---- by whether there was a value
-
-pub some_is : {X : Type 0} (x y : X) → Some x ≡ Some y → x ≡ y
-some_is x y e = cc

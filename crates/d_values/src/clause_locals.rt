@@ -1,7 +1,7 @@
 //! Clause-local variables.
 
 ghost use Rattle.std.specs.Prelude.{◌≡◌, [], unwrap_or, OnOk, OnErr};
-ghost use Rattle.d_values.specs.{Variables.same_var};
+ghost use Rattle.d_values.specs.{Outcomes.AllOrNothing, Variables.same_var};
 ghost use Rattle.d_values.specs.Vocabulary.{get, Updates};
 ghost use Rattle.d_values.specs.Stores.{blank, kind_of, value_to_keep, lent_value, local_entry};
 ghost use Rattle.d_values.specs.Stores.{local_of, with_local};
@@ -107,8 +107,8 @@ fn find(map: &IndexMap<Var, Value>, var: Var) -> ValueRef<'_>
 
 // Sets a variable's value.
 fn put(map: &mut IndexMap<Var, Value>, var: Var, value: Value) -> Result<(), AllocError>
-    ensures ok { OnOk result (Updates same_var map.old map.new var (value_to_keep value)) }
-    ensures err { OnErr result (map.new.entries ≡ map.old.entries) }
+    ensures { AllOrNothing result map.old.entries map.new.entries
+        (Updates same_var map.old map.new var (value_to_keep value)) }
 {
     if value.is_blank() {
         map.swap_remove(&var);

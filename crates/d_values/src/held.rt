@@ -1,8 +1,8 @@
 //! What a thread-local variable holds.
 
-ghost use Rattle.std.specs.Prelude.{◌≡◌, [], false, is_some, unwrap_or, OnErr, OnOk};
+ghost use Rattle.std.specs.Prelude.{◌≡◌, [], false, is_some, unwrap_or};
 ghost use Rattle.indexmap.specs.IndexMap.{Updates, get};
-ghost use Rattle.d_values.specs.{Vocabulary.lookup, Keys.same_key};
+ghost use Rattle.d_values.specs.{Outcomes.AllOrNothing, Vocabulary.lookup, Keys.same_key};
 ghost use Rattle.d_values.specs.Stores.{blank, lent_value, value_to_keep};
 
 use crate::key::Key;
@@ -77,11 +77,10 @@ impl Held {
 
     /// Sets the key's value.
     pub(crate) fn set(&mut self, key: &Key, value: Value) -> Result<(), AllocError>
-        ensures ok { OnOk result ((k : List KeyPart)
-            → lookup (same_key k) (elements_of self.new)
+        ensures { AllOrNothing result (elements_of self.old) (elements_of self.new)
+            ((k : List KeyPart) → lookup (same_key k) (elements_of self.new)
             ≡ (if same_key key.now k then value_to_keep value
             else lookup (same_key k) (elements_of self.old))) }
-        ensures err { OnErr result (elements_of self.new ≡ elements_of self.old) }
     {
         if key.parts().is_empty() {
             self.scalar = value.kept();
@@ -110,9 +109,8 @@ fn lend<'a>(elements: &'a Elements, key: &Key, kind: Kind) -> ValueRef<'a>
 
 // Sets the value at the key.
 fn put(elements: &mut Elements, key: &Key, value: Value) -> Result<(), AllocError>
-    ensures ok { OnOk result
+    ensures { AllOrNothing result elements.old.entries elements.new.entries
         (Updates same_key elements.old elements.new key.now (value_to_keep value)) }
-    ensures err { OnErr result (elements.new.entries ≡ elements.old.entries) }
 {
     if value.is_blank() {
         elements.swap_remove(key);

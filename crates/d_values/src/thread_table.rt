@@ -1,7 +1,7 @@
 //! Thread-local variables.
 
 ghost use Rattle.std.specs.Prelude.{◌≡◌, [], None, unwrap_or, OnOk, OnErr};
-ghost use Rattle.d_values.specs.{Vocabulary.get, Variables.same_var};
+ghost use Rattle.d_values.specs.{Outcomes.AllOrNothing, Vocabulary.get, Variables.same_var};
 ghost use Rattle.d_values.specs.Stores.{blank, kind_of, value_to_keep, lent_value, own_entry};
 ghost use Rattle.d_values.specs.Stores.{own_of, with_own, AreOwn};
 ghost use Rattle.d_values.specs.Tables.{pairs_of};
@@ -130,9 +130,9 @@ fn put(
     key: &Key,
     value: Value,
 ) -> Result<(), AllocError>
-    ensures ok { OnOk result
+    ensures { AllOrNothing result
+        (pairs_of variables.old.entries) (pairs_of variables.new.entries)
         (Sets variables.old.entries variables.new.entries var key.now (value_to_keep value)) }
-    ensures err { OnErr result (pairs_of variables.new.entries ≡ pairs_of variables.old.entries) }
 {
     if let Some((index, _, _)) = variables.get_full(&var) {
         if let Some(held) = variables.get_index_mut(index) {
@@ -150,9 +150,8 @@ fn start(
     value: Value,
 ) -> Result<(), AllocError>
     requires { get same_var variables.old var ≡ None }
-    ensures ok { OnOk result
+    ensures { AllOrNothing result variables.old.entries variables.new.entries
         (Sets variables.old.entries variables.new.entries var key.now (value_to_keep value)) }
-    ensures err { OnErr result (variables.new.entries ≡ variables.old.entries) }
 {
     if value.is_blank() {
         return Ok(());
