@@ -62,8 +62,7 @@ impl<R: Read> Read for Faulty<R> {
         ensures bound { ReadsAtMost result buf.new }
         ensures bytes { ReadConsumes (R.remaining (faulty_inner self.old))
             (R.remaining (faulty_inner self.new)) result buf.new }
-        ensures one { IfOk result (λ n. n ≤ 1) }
-        ensures call { UsesGoodCall self.old self.new result }
+        ensures call { UsesGoodCall self.old self.new result × IfOk result (λ n. n ≤ 1) }
     {
         self.begin()?;
         let room = buf.len().min(1);
@@ -78,8 +77,7 @@ impl<W: Write> Write for Faulty<W> {
         ensures bound { WritesAtMost result buf.now }
         ensures bytes { WriteAppends (W.contents (faulty_inner self.old))
             (W.contents (faulty_inner self.new)) result buf.now }
-        ensures one { IfOk result (λ n. n ≤ 1) }
-        ensures call { UsesGoodCall self.old self.new result }
+        ensures call { UsesGoodCall self.old self.new result × IfOk result (λ n. n ≤ 1) }
     {
         self.begin()?;
         let room = buf.len().min(1);
