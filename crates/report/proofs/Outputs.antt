@@ -9,10 +9,15 @@ use Rattle.aggregations.specs.declared.function.AggFn.{AggFn}
 use Rattle.aggregations.specs.Table.{Contribution}
 use Rattle.report.specs.Entry.{Entry}
 use Rattle.report.specs.Listing.{IsListing, listing_bytes}
-use Rattle.report.specs.Steps.Listing.{AppendsListing}
 use Rattle.report.proofs.Listings.{listing_exists}
 use Rattle.report.specs.Output.{IsOutput}
 use Rattle.report.specs.Steps.Output.{AppendsTables}
+
+-- the bytes after are those before, and then a listing of the aggregation
+pub record AppendsListing (function : AggFn) (agg : ℕ) (contributions : List Contribution) (before after : List ℕ) : Type 0 where
+  pub entries : List Entry
+  pub listing : IsListing function agg contributions entries
+  pub bytes : after ≡ before ++ listing_bytes entries
 
 pub shows_none : (contributions : List Contribution) (bytes : List ℕ) → bytes ≡ [] → IsOutput [] [] contributions bytes
 shows_none contributions bytes none = record { listings = []; listed = tt; joined = none }

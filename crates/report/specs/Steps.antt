@@ -1,4 +1,3 @@
 -- What private functions alone say of their steps. No contract for callers rests on these
 -- definitions.
-pub mod Listing
 pub mod Output

@@ -67,7 +67,7 @@ fn put_row(
 {
     put_label(out, scale, bucket)?;
     out.extend_from_slice(b" |")?;
-    put_bar(out, count, all)?;
+    put_signs(out, ((80 * count + all) / (2 * all)) as usize)?;
     out.push(b' ')?;
     put_count(out, count)?;
     out.extend_from_slice(b"\n")
@@ -110,16 +110,6 @@ fn put_label(out: &mut Vec<u8>, scale: Scale, bucket: u32) -> Result<(), AllocEr
     )?;
     out.extend_from_slice(mark)?;
     out.extend_from_slice(digits)
-}
-
-// Puts the bar of a bucket that has `count` of all arguments.
-fn put_bar(out: &mut Vec<u8>, count: u64, all: u64) -> Result<(), AllocError>
-    requires some { 0 < all }
-    requires few { all ≤ 2 ^ 52 }
-    requires share { count ≤ all }
-    ensures { OnOk result (out.new.items ≡ out.old.items ++ spec.bar_bytes count all) }
-{
-    put_signs(out, ((80 * count + all) / (2 * all)) as usize)
 }
 
 // Puts a bar of this many signs.

@@ -1,11 +1,10 @@
 //! All that a run shows.
 
-ghost use Rattle.std.specs.Prelude.{◌≡◌, ◌<◌, ◌++◌, List, Some, OnOk, IfOk, map, slice_get, length};
+ghost use Rattle.std.specs.Prelude.{◌≡◌, ◌++◌, List, OnOk, IfOk, map};
 ghost use Rattle.report.specs.{Entry.entry_bytes};
-ghost use Rattle.report.specs.Vocabulary.{AggFn, Contribution, StandsFor, deref_pair, flat_map};
+ghost use Rattle.report.specs.Vocabulary.{Contribution, StandsFor, deref_pair, flat_map};
 ghost use Rattle.report.specs.Vocabulary.{functions_of};
 ghost use Rattle.report.specs.Listing.{listing_bytes};
-ghost use Rattle.report.specs.Steps.Listing.{AppendsListing};
 ghost use Rattle.report.specs.Output.{IsOutput};
 ghost use Rattle.report.specs.Steps.Output.{AppendsTables};
 ghost use Rattle.d_types.specs.TypedScripts.{typed_script_of};
@@ -81,29 +80,13 @@ fn put_tables<R: Threads + Sync>(
         (AppendsTables (functions_of table.now) contributions out.old.items out.new.items) }
 {
     for agg in 0..table.len() {
-        put_aggregation(rt, alloc, out, table, agg)?;
+        let entries = listing(alloc, table, agg)?;
+        put_entries(rt, alloc, out, &entries)?;
     }
     Ok(())
 }
 
-// Puts what shows one aggregation.
-fn put_aggregation<R: Threads + Sync>(
-    rt: &R,
-    alloc: Global,
-    out: &mut Vec<u8>,
-    table: &AggTable,
-    agg: usize,
-) -> Result<(), AllocError>
-    requires { agg < length (functions_of table.now) }
-    ensures { (contributions : List Contribution) (function : AggFn)
-        → StandsFor table.now contributions → slice_get (functions_of table.now) agg ≡ Some function
-        → OnOk result (AppendsListing function agg contributions out.old.items out.new.items) }
-{
-    let entries = listing(alloc, table, agg)?;
-    put_entries(rt, alloc, out, &entries)
-}
-
-// Puts a line feed and the entries, if there are any.
+// Puts a line feed and the entries, if there are any. Threads share the work if there are many.
 fn put_entries<R: Threads + Sync>(
     rt: &R,
     alloc: Global,
@@ -117,19 +100,6 @@ fn put_entries<R: Threads + Sync>(
         return Ok(());
     }
     out.push(b'\n')?;
-    put_lines(rt, alloc, out, entries)
-}
-
-// Puts entries. Threads share the work if there are many.
-fn put_lines<R: Threads + Sync>(
-    rt: &R,
-    alloc: Global,
-    out: &mut Vec<u8>,
-    entries: &[(&Key, &Partial)],
-) -> Result<(), AllocError>
-    ensures { OnOk result (out.new.items
-        ≡ out.old.items ++ flat_map (λ e. entry_bytes (deref_pair e)) entries.now) }
-{
     if entries.len() < MIN_FOR_THREADS {
         return put_each(out, entries);
     }
@@ -179,19 +149,13 @@ fn blocks<R: Threads + Sync>(
             |entries: &[(&Key, &Partial)]| -> Result<Vec<u8>, AllocError>
                 ensures { IfOk result (λ block. block.items
                     ≡ flat_map (λ e. entry_bytes (deref_pair e)) entries.now) }
-            { block(alloc, entries) },
+            {
+                let mut out = Vec::new(alloc);
+                put_each(&mut out, entries)?;
+                Ok(out)
+            },
         )
         .collect::<Result<Vec<Vec<u8>>, AllocError>>(rt, alloc)?
-}
-
-// The bytes of one block.
-fn block(alloc: Global, entries: &[(&Key, &Partial)]) -> Result<Vec<u8>, AllocError>
-    ensures { IfOk result (λ block. block.items
-        ≡ flat_map (λ e. entry_bytes (deref_pair e)) entries.now) }
-{
-    let mut out = Vec::new(alloc);
-    put_each(&mut out, entries)?;
-    Ok(out)
 }
 
 // Puts blocks, one after the other.
