@@ -48,14 +48,6 @@ pub fn is_same(left: &[u8], right: &[u8]) -> bool
     if count >= 4 {
         return is_same_middle(left, right);
     }
-    is_same_short(left, right)
-}
-
-// Whether fewer than four bytes are the same.
-#[inline(always)]
-fn is_same_short(left: &[u8], right: &[u8]) -> bool
-    ensures { IsTrue result ↔ (left.now ≡ right.now) }
-{
     left == right
 }
 
