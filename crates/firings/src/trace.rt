@@ -64,7 +64,7 @@ impl Trace {
             (t : ℤ) → Contains v.items t ↔ Contains (map thread_of self.now) t) }
     {
         let seen = threads_of(alloc, &self.firings)?;
-        in_order(alloc, seen)
+        seen.into_iter().collect(alloc)
     }
 }
 
@@ -102,12 +102,4 @@ fn note(
     }
     noted[owner] = true;
     Ok(())
-}
-
-// The threads that were seen, in order.
-fn in_order(alloc: Global, seen: BTreeSet<i32>) -> Result<Vec<i32>, AllocError>
-    ensures keys { IfOk result (λ v. v.items ≡ seen.keys) }
-    ensures ascending { IfOk result (λ v. IsStrictlySortedBy int_cmp v.items) }
-{
-    seen.into_iter().collect(alloc)
 }

@@ -1,5 +1,9 @@
+use Rattle.std.proofs.Common.{◌≡◌, rules}
+use Rattle.std.specs.Prelude.{IfOk}
 use Rattle.std.proofs.lemmas.Result.{IfOk-weaker}
 use Rattle.firings.proofs.trace.Trace.threads.Goals as goal
 
 pub returns-clause-same : goal.returns-clause-same
-returns-clause-same c = IfOk-weaker c.in_order.result _ _ (λ v keys t. rw keys (rw (← c.self.view_is) (c.in_ok-seen.ensures t))) c.in_order.ensures.keys
+returns-clause-same c =
+    let keys : IfOk c.collect.result (λ v. v.items ≡ c.in_ok-seen.seen.keys) = search rules in
+    IfOk-weaker c.collect.result _ _ (λ v is t. rw is (rw (← c.self.view_is) (c.in_ok-seen.ensures t))) keys
