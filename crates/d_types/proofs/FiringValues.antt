@@ -1,12 +1,8 @@
 -- The built-ins of firings, and variables that were never assigned, are values of their types.
-use Rattle.std.specs.Prelude.{◌≡◌, ℕ, ◌-◌, ◌%◌, ◌^◌, ◌<◌, ◌≤◌, ℤ, pos, negsuc, List, length, All}
-use Rattle.std.specs.Prelude.{get_or, FitsSigned}
-use Rattle.std.proofs.Common.{sym, ap, ◌∙◌, arith, inl, inr, subst}
-use Rattle.std.specs.Int.{cast_unsigned, w64}
-use Rattle.std.proofs.lemmas.Bool.{cases_lt}
+use Rattle.std.specs.Prelude.{◌≡◌, ℕ, ◌-◌, ◌%◌, ◌^◌, ◌<◌, ℤ, pos, negsuc, FitsSigned}
+use Rattle.std.proofs.Common.{ap, ◌∙◌, arith, subst}
+use Rattle.std.specs.Int.{cast_unsigned, w32, w64}
 use Rattle.std.proofs.lemmas.Int.{ints}
-use Rattle.std.proofs.lemmas.List.{get_or_past}
-use Rattle.std.proofs.lemmas.List.Elements.{All-get_or}
 use Rattle.std.proofs.lemmas.Nat.{pow_pos}
 use Rattle.std.proofs.Math.Nat.{mod-eq_of_lt}
 use Rattle.d_values.specs.declared.int_type.IntType.{IntType}
@@ -17,11 +13,8 @@ use Rattle.d_values.specs.Stores.{blank}
 use Rattle.d_values.specs.Types.{INT32, INT64, UINT64}
 use Rattle.d_values.specs.Words.{sign_extension, narrow}
 use Rattle.d_values.proofs.Narrowing.{extended_low}
-use Rattle.firings.specs.declared.firing.Firing.{Firing}
-use Rattle.firings.specs.Firings.{HasRanges, IsIntFrom}
-use Rattle.d_types.specs.declared.typed.BuiltIn.TheVariants as bi
 use Rattle.d_types.specs.Variables.{kind_of_type}
-use Rattle.d_types.specs.Held.{IsWord, IsOf, HasTypedBuiltIns, Slots, AreTypedLocals, AreTypedOwn}
+use Rattle.d_types.specs.Held.{IsWord, IsOf, Slots, AreTypedLocals, AreTypedOwn}
 use Rattle.d_types.proofs.ValueTypes.{narrow_is}
 
 -- ---- firings
@@ -30,36 +23,16 @@ unsigned_is : (z : ℤ) → FitsSigned w64 z → cast_unsigned w64 z ≡ bits_of
 unsigned_is (pos n) fits = omega arith
 unsigned_is (negsuc n) fits = omega arith
 
-long_is : (z : ℤ) → FitsSigned w64 z → IsWord INT64 (cast_unsigned w64 z)
+pub long_is : (z : ℤ) → FitsSigned w64 z → IsWord INT64 (cast_unsigned w64 z)
 long_is (pos n) fits = (pos n, record { least = omega (arith, ints); below = omega (arith, ints) }, unsigned_is (pos n) fits)
 long_is (negsuc n) fits = (negsuc n, record { least = omega (arith, ints); below = omega (arith, ints) }, unsigned_is (negsuc n) fits)
 
-int_is : (least : ℕ) (z : ℤ) → IsIntFrom least z → IsWord INT32 (cast_unsigned w64 z)
-int_is least (pos n) is =
-    let small : n ≤ 0x7FFF_FFFF = omega (arith, ints, is.1) in
-    (pos n, record { least = omega (arith, ints); below = omega (arith, ints) }, (let e : cast_unsigned w64 (pos n) ≡ bits_of (pos n) = omega arith in e))
-int_is least (negsuc n) is = absurd (omega (arith, ints, is.0))
+pub int_is : (z : ℤ) → FitsSigned w32 z → IsWord INT32 (cast_unsigned w64 z)
+int_is (pos n) fits = (pos n, record { least = omega (arith, ints); below = omega (arith, ints) }, unsigned_is (pos n) (omega arith))
+int_is (negsuc n) fits = (negsuc n, record { least = omega (arith, ints); below = omega (arith, ints) }, unsigned_is (negsuc n) (omega arith))
 
-time_is : (n : ℕ) → n < 2 ^ 64 → IsWord UINT64 n
+pub time_is : (n : ℕ) → n < 2 ^ 64 → IsWord UINT64 n
 time_is n small = (pos n, record { least = omega (arith, ints); below = omega (arith, ints) }, (let e : n ≡ bits_of (pos n) = omega arith in e))
-
-argument_is : (args : List ℤ) (n : ℕ) → All (FitsSigned w64) args → FitsSigned w64 (get_or args n (pos 0))
-argument_is args n fit = elim (cases_lt n (length args)) [
-  | inl inside ↦ All-get_or (FitsSigned w64) args n (pos 0) inside fit
-  | inr past ↦ subst (FitsSigned w64) (sym (get_or_past args n (pos 0) past)) (omega arith)
-]
-
-pub firing_is : (f : Firing) → HasRanges f → HasTypedBuiltIns f
-firing_is f is (bi.Argument n) = long_is (get_or f.args n (pos 0)) (argument_is f.args n is.args)
-firing_is f is bi.Timestamp = time_is f.time is.time
-firing_is f is bi.Cpu = int_is 0 f.cpu is.cpu
-firing_is f is bi.Pid = int_is 0 f.pid is.pid
-firing_is f is bi.Tid = int_is 0 f.thread is.thread
-firing_is f is bi.Execname = is.execname.short
-firing_is f is bi.Probeprov = is.provider.short
-firing_is f is bi.Probemod = is.probemod.short
-firing_is f is bi.Probefunc = is.probefunc.short
-firing_is f is bi.Probename = is.name.short
 
 -- ---- what was never assigned
 

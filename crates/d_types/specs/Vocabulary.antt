@@ -37,7 +37,6 @@ pub use Rattle.d_values.specs.declared.operators.ShiftOperator.{ShiftOperator}
 pub use Rattle.d_values.specs.declared.value.Kind.{Kind}
 pub use Rattle.d_values.specs.declared.value.Value.{Value}
 pub use Rattle.d_values.specs.declared.variable.Var.{Var}
-pub use Rattle.firings.specs.Firings.{HasRanges}
 pub use Rattle.firings.specs.declared.firing.Firing.{Firing}
 pub use Rattle.std.specs.Fmt.{decimal}
 pub use Rattle.std.specs.Int.{cast_signed, w64, cast_unsigned}

@@ -3,7 +3,7 @@
 ghost use Rattle.std.specs.Prelude.{◌≡◌, ◌↔◌, ℕ, false, All};
 ghost use Rattle.d_types.specs.{Storage.Variables, Clauses.run_of, Wholes.ClauseIs, Laws.in_place};
 ghost use Rattle.d_types.specs.{Scripts.IsMeant};
-ghost use Rattle.d_types.specs.Vocabulary.{IntType, blank, narrow, Firing, HasRanges, Step, Answer};
+ghost use Rattle.d_types.specs.Vocabulary.{IntType, blank, narrow, Firing, Step, Answer};
 ghost use Rattle.d_types.specs.Vocabulary.{Operation, Variable, DType};
 ghost use Rattle.d_types.specs.Typed.{Typed, Typeds, type_of, ClauseMeant, ScriptMeant};
 ghost use Rattle.d_types.specs.Expressions.{number_outcome, eval};
@@ -11,6 +11,8 @@ ghost use Rattle.d_types.specs.Held.{AreTyped, AreTypedLocals, AreTypedOwn, Ends
 ghost use Rattle.d_types.specs.Held.{HasTypedBuiltIns};
 ghost use Rattle.d_types.specs.Held.{IsConsistent, IsOf, IsWord, Slots, slots_of};
 ghost use Rattle.d_types.specs.Laws as spec;
+
+use firings::Firing;
 
 /// Without an assignment, `++` or `--`, evaluation leaves the variables as they were.
 pub fn only_assignments_change_variables()
@@ -35,16 +37,31 @@ pub fn values_are_of_their_types()
 {}
 
 /// Variables that hold values of their types do so after each run of a clause. Those of one storage
-/// do so before anything was assigned to it. The built-ins of a firing, of a row and of BEGIN and
-/// END, are values of their types.
+/// do so before anything was assigned to it.
 pub fn variables_keep_their_types()
     ensures run { (slots : Slots) (f : Firing) (index : ℕ) (clause : ClauseMeant) (vars : Variables)
         → HasTypedBuiltIns f → ClauseIs (IsConsistent slots) clause → AreTyped slots vars
         → AreTyped slots (run_of f index clause vars).variables }
     ensures locals { (slots : Slots) → AreTypedLocals slots (λ var. blank var.kind) }
     ensures own { (slots : Slots) → AreTypedOwn slots (λ var key. blank var.kind) }
-    ensures firing { (f : Firing) → HasRanges f → HasTypedBuiltIns f }
 {}
+
+/// The built-ins of every firing are values of their types, by those of its fields. It reads them
+/// for its proof alone: nothing of it is left in a program.
+pub fn built_ins_are_of_their_types(firing: &Firing)
+    ensures { HasTypedBuiltIns firing.now }
+{
+    let _ = firing.execname.count();
+    let _ = firing.provider.count();
+    let _ = firing.probemod.count();
+    let _ = firing.probefunc.count();
+    let _ = firing.name.count();
+    for number in 0..10 {
+        let _ = firing.args.nth(number);
+    }
+    let _ = firing.args.stored();
+    let (_time, _cpu, _pid, _thread) = (firing.time, firing.cpu, firing.pid, firing.thread);
+}
 
 /// The trees of a typed script are consistent with the types of its variables.
 pub fn scripts_are_consistent()

@@ -3,7 +3,7 @@ use Rattle.std.specs.Prelude.{◌≡◌, ◌%◌, ℕ, ℤ, List, [], ◌∷◌,
 use Rattle.std.specs.Prelude.{Option, None, Some, is_some, length, take, Ok, Err}
 use Rattle.std.specs.Option.{option_or}
 use Rattle.std.proofs.Common.{refl, sym, ap, ◌∙◌, subst}
-use Rattle.aggregations.specs.Table.{Contribution, contribution}
+use Rattle.aggregations.specs.Table.{Aggregation, Contribution, StandsFor, contribution, functions_of}
 use Rattle.d_values.specs.declared.key.KeyPart.{KeyPart}
 use Rattle.d_types.specs.declared.effect.Effect.{Effect}
 use Rattle.d_types.specs.declared.effect.Effect.TheVariants as ef
@@ -17,7 +17,7 @@ use Rattle.replay_core.specs.Steps.EffectRuns.{run_result, run_with, texts_in}
 use Rattle.replay_core.specs.Steps.Effects.{effects_result, NotesEffect, Performs}
 use Rattle.replay_core.specs.Lanes.{Notes}
 use Rattle.replay_core.specs.Pieces.{PieceSeen}
-use Rattle.replay_core.proofs.Noting.{append_nil, notes_nothing, notes_then}
+use Rattle.replay_core.proofs.Noting.{append_nil, notes_nothing, notes_then, or_none}
 
 -- ---- effects and those after them
 
@@ -166,15 +166,18 @@ says number o go x text old new after is same noted =
     subst (λ q. Performs number (with q (λ x. Has (ef.Says (go x)))) old (Ok false) new after) (sym is)
     (refl, subst (λ t. NotesEffect number (ef.Says t) old new) same noted, refl)
 
-pub adds : (number index : ℕ) (o : Outcome (List KeyPart)) (given : Variables → Outcome ℤ) (key : List KeyPart) (z : ℤ) (old new : PieceSeen) (between after : Variables)
-    → o ≡ Has key between → given between ≡ Has z after → NotesEffect number (ef.Adds index key z) old new
-    → Performs number (with o (λ key vars. with (given vars) (λ z. Has (ef.Adds index key z)))) old (Ok false) new after
-adds number index o given key z old new between after keyed is noted =
-    subst (λ q. Performs number (with q (λ key vars. with (given vars) (λ z. Has (ef.Adds index key z)))) old (Ok false) new after) (sym keyed)
-    (subst (λ q. Performs number (with q (λ z. Has (ef.Adds index key z))) old (Ok false) new after) (sym is) (refl, noted, refl))
+pub adds : (number index : ℕ) (o : Outcome (List KeyPart)) (given : Variables → Outcome ℤ) (key : List KeyPart) (z : ℤ) (old : PieceSeen) (table : List Aggregation) (between after : Variables)
+    → o ≡ Has key between → given between ≡ Has z after → functions_of table ≡ functions_of old.table
+    → ((before : List Contribution) → StandsFor old.table before → StandsFor table (before ++ contribution index key z ∷ []))
+    → Performs number (with o (λ key vars. with (given vars) (λ z. Has (ef.Adds index key z)))) old (Ok false) (record old { table = table }) after
+adds number index o given key z old table between after keyed is functions stands =
+    subst (λ q. Performs number (with q (λ key vars. with (given vars) (λ z. Has (ef.Adds index key z)))) old (Ok false) (record old { table = table }) after) (sym keyed)
+    (subst (λ q. Performs number (with q (λ z. Has (ef.Adds index key z))) old (Ok false) (record old { table = table }) after) (sym is)
+    (refl, (λ vars. record { texts = append_nil old.events; functions = functions; table = stands; taken = refl; exit = or_none old.exit }), refl))
 
-pub leaves : (number : ℕ) (o : Outcome ℕ) (word : ℕ) (old new : PieceSeen) (after : Variables)
-    → o ≡ Has word after → NotesEffect number (ef.Exits (word % 256)) old new
-    → Performs number (with o (λ word. Has (ef.Exits (word % 256)))) old (Ok true) new after
-leaves number o word old new after is noted =
-    subst (λ q. Performs number (with q (λ word. Has (ef.Exits (word % 256)))) old (Ok true) new after) (sym is) (refl, noted, refl)
+pub leaves : (number : ℕ) (o : Outcome ℕ) (word : ℕ) (old : PieceSeen) (exit : Option (ℕ × ℕ)) (after : Variables)
+    → o ≡ Has word after → exit ≡ option_or old.exit (Some (number, word % 256))
+    → Performs number (with o (λ word. Has (ef.Exits (word % 256)))) old (Ok true) (record old { exit = exit }) after
+leaves number o word old exit after is exits =
+    subst (λ q. Performs number (with q (λ word. Has (ef.Exits (word % 256)))) old (Ok true) (record old { exit = exit }) after) (sym is)
+    (refl, (λ vars. record { texts = append_nil old.events; functions = refl; table = λ before. subst (StandsFor old.table) (append_nil before); taken = refl; exit = exits }), refl)

@@ -7,22 +7,15 @@ use Rattle.std.proofs.lemmas.List.Concat.{flat_map-append}
 use Rattle.std.proofs.lemmas.List.Elements.{filter-append}
 use Rattle.std.proofs.lemmas.Option.{slice_get-get_or, slice_get-map}
 use Rattle.firings.specs.declared.firing.Firing.{Firing}
-use Rattle.firings.specs.Firings.{HasRanges, IsFiring}
 use Rattle.firings.specs.Stored.{row_before}
-use Rattle.firings.specs.Firings.{IsTrace}
 use Rattle.replay_core.specs.declared.workers.span.Span.{Span}
 use Rattle.replay_core.specs.Selecting.{lent}
 use Rattle.replay_core.specs.Working.{is_in}
 use Rattle.replay_core.specs.Steps.Working.{firings_at}
 use Rattle.replay_core.specs.Vocabulary.{with_ends}
 use Rattle.replay_core.proofs.TraceRuns.{at_row, few_kept}
-use Rattle.replay_core.proofs.WorkSteps.{at_of}
 
 -- ---- rows
-
-pub row_ranges : (trace : List Firing) (index : ℕ) (f : Firing) → IsTrace trace → row_before trace index ≡ Some f → HasRanges f
-row_ranges trace zero f are is = absurd cc
-row_ranges trace (suc i) f are is = (at_of IsFiring trace i f are.firings is).ranges
 
 pub row_at : (trace : List Firing) (index : ℕ) (f : Firing) → row_before trace index ≡ Some f → slice_get (with_ends trace trace) index ≡ Some f
 row_at trace zero f is = absurd cc

@@ -17,12 +17,6 @@ use Rattle.replay_core.specs.Steps.Working.{firings_at}
 
 -- ---- indices
 
-pub at_of : {X : Type 0} (P : X → Type 0) (xs : List X) (k : ℕ) (x : X) → All P xs → slice_get xs k ≡ Some x → P x
-at_of P [] zero x all e = absurd cc
-at_of P [] (suc k) x all e = absurd cc
-at_of P (y ∷ xs) zero x all e = let same : y ≡ x = cc in subst P same (all 0 y (omega arith))
-at_of P (y ∷ xs) (suc k) x all e = at_of P xs k x (λ j d lt. all (suc j) d (omega arith)) e
-
 pub one_at : (fs : List Firing) (index : ℕ) (f : Firing) → slice_get fs index ≡ Some f → take 1 (drop index fs) ≡ f ∷ []
 one_at [] zero f e = absurd cc
 one_at [] (suc k) f e = absurd cc

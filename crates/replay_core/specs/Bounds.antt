@@ -1,5 +1,5 @@
 -- The aggregations that a clause names, and how often it contributes.
-use Rattle.std.specs.Prelude.{ℕ, ◌+◌, ◌≤◌, List, [], ◌∷◌, All, length, max}
+use Rattle.std.specs.Prelude.{ℕ, ◌+◌, ◌≤◌, List, [], ◌∷◌, All, length, max, sum_by}
 use Rattle.replay_core.specs.Vocabulary.{AggFn, MAX_BYTES}
 use Rattle.d_types.specs.Typed.{ActionOf, Evaluate, Trace, Print, Exit, Aggregate, ClauseMeant}
 
@@ -19,8 +19,10 @@ indices_among (a ∷ rest) = max (index_in a) (indices_among rest)
 abbrev pub indices_in : ClauseMeant → ℕ
 indices_in c = indices_among c.statements
 
--- an engine's clauses name aggregations of these functions, and contribute at most this often
-pub record AreBounded {C : Type 0} (indices most : C → ℕ) (clauses : List C)
+-- an engine's clauses name aggregations of these functions, contribute at most this often, and have
+-- at most this many descriptions together
+pub record AreBounded {C : Type 0} (indices most probes : C → ℕ) (clauses : List C)
     (functions : List AggFn) : Type 0 where
   pub named : All (λ c. indices c ≤ length functions) clauses
   pub few : All (λ c. most c ≤ MAX_BYTES) clauses
+  pub described : sum_by probes clauses ≤ MAX_BYTES

@@ -1,5 +1,5 @@
 -- What a lane does with a firing.
-use Rattle.std.specs.Prelude.{◌≡◌, ℕ, List, [], ◌∷◌, ◌++◌, map, None, option_map}
+use Rattle.std.specs.Prelude.{◌≡◌, ℕ, Bool, false, List, [], ◌∷◌, ◌++◌, map, None, option_map}
 use Rattle.replay_core.specs.Vocabulary.{Contribution, Firing, Made, ScriptMeant, StandsFor}
 use Rattle.replay_core.specs.Vocabulary.{functions_of, option_or}
 use Rattle.replay_core.specs.Meaning.{Threads, blank_threads, threads_after, history, texts_of}
@@ -11,8 +11,9 @@ pub record LaneSeen : Type 0 where
   pub threads : Threads
   pub piece : PieceSeen
 
--- no firing was run: nothing is assigned, and nothing was made
-pub record IsFresh (lane : LaneSeen) : Type 0 where
+-- no firing was run: nothing is assigned, nothing was made, and no memory was refused
+pub record IsFresh (spent : Bool) (lane : LaneSeen) : Type 0 where
+  pub unspent : spent ≡ false
   pub threads : lane.threads ≡ blank_threads
   pub texts : lane.piece.events ≡ []
   pub table : StandsFor lane.piece.table []

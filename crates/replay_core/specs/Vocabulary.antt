@@ -16,7 +16,7 @@ pub use Rattle.d_values.specs.declared.key.KeyPart.{KeyPart}
 pub use Rattle.d_values.specs.declared.value.Value.{Value}
 pub use Rattle.d_values.specs.declared.variable.Var.{Var}
 pub use Rattle.firings.specs.Ends.{begin_of, end_of, with_ends}
-pub use Rattle.firings.specs.Firings.{HasRanges, number_of}
+pub use Rattle.firings.specs.Firings.{number_of}
 pub use Rattle.firings.specs.Stored.{AreIndices, Extends, row_before}
 pub use Rattle.firings.specs.Firings.{IsTrace}
 pub use Rattle.firings.specs.declared.firing.Firing.{Firing}

@@ -1,6 +1,7 @@
 -- What a worker makes of the groups that it takes.
-use Rattle.std.specs.Prelude.{◌==◌, ◌||◌, ℕ, nat_le, Bool, true, List, All, filter}
-use Rattle.replay_core.specs.Vocabulary.{AreOf, Firing, Groups, ScriptMeant, run_threads, with_ends}
+use Rattle.std.specs.Prelude.{◌≡◌, ◌==◌, ◌||◌, ℕ, nat_le, Bool, true, List, [], All, filter}
+use Rattle.replay_core.specs.Vocabulary.{AreOf, Firing, Groups, Handed, ScriptMeant, grouping}
+use Rattle.replay_core.specs.Vocabulary.{run_threads, with_ends}
 use Rattle.replay_core.specs.declared.{lanes.piece.Piece.Piece, workers.span.Span.Span}
 use Rattle.replay_core.specs.declared.workers.span.Span.TheVariants as span
 use Rattle.replay_core.specs.{Pieces.IsPieceOf}
@@ -12,6 +13,13 @@ pub record IsReady (runs : ScriptMeant → Type 0) (groups : Groups) (trace : Li
     : Type 0 where
   pub script : (m : ScriptMeant) × runs m
   pub placed : AreOf groups (run_threads trace)
+
+-- a seat that was handed nothing, at a source of a number for each group
+pub record IsSeated {S Seat : Type 0} (end : S → ℕ) (is_at : S → Seat → Type 0)
+    (handed : Seat → Handed) (source : S) (seat : Seat) (groups : Groups) : Type 0 where
+  pub at : is_at source seat
+  pub new : (handed seat).numbers ≡ []
+  pub all : end source ≡ (grouping groups).count
 
 -- all, or those up to the last number, and END
 abbrev pub is_in : Span → Firing → Bool

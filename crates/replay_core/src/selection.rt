@@ -8,7 +8,7 @@ pub(crate) mod table;
 
 ghost use Rattle.std.specs.Prelude.{◌≡◌, ◌≤◌, IfOk, List, OnOk, Some, [], get_or};
 ghost use Rattle.std.specs.Prelude.{length, map, slice_get, sum_by, take};
-ghost use Rattle.replay_core.specs.Vocabulary.{AllZip, AreIndices, ClauseMeant, Description};
+ghost use Rattle.replay_core.specs.Vocabulary.{AllZip, ClauseMeant, Description};
 ghost use Rattle.replay_core.specs.Vocabulary.{Extends, MAX_BYTES, MAX_TOGETHER, ScriptMeant};
 ghost use Rattle.replay_core.specs.Vocabulary.{Slots, slots_of, with_ends};
 ghost use Rattle.replay_core.specs.{Indices.indices_for};
@@ -121,7 +121,10 @@ impl<'a> Found<'a> {
         let mut lists = ClauseLists::new(alloc, hash_key);
         let begin = list_for(alloc, &mut lists, &table, &trace.begin().into_probe())?;
         let end = list_for(alloc, &mut lists, &table, &trace.end().into_probe())?;
-        let by_probe = lists_for(alloc, &mut lists, &table, &firings)?;
+        let mut by_probe = Vec::new(alloc);
+        for probe in 0..firings.probe_count() {
+            by_probe.push(list_for(alloc, &mut lists, &table, &firings.probe(probe))?)?;
+        }
         Ok(Found {
             firings,
             lists,
@@ -233,25 +236,6 @@ fn descriptions<'a, C: Clause>(
         all.push(clause.descriptions())?;
     }
     Ok(all)
-}
-
-// The indices of the lists for all probes.
-fn lists_for(
-    alloc: Global,
-    lists: &mut ClauseLists,
-    table: &DescriptionTable,
-    firings: &ProbeIndices,
-) -> Result<Vec<usize>, AllocError>
-    ensures grows { OnOk result (Extends lists.old lists.new) }
-    ensures indices { (ds : List (List Description)) → IsTableOf table.now ds
-        → IfOk result (λ indices. AreIndices lists.new indices.items
-        (map (λ p. indices_for p 0 ds) firings.now.probes)) }
-{
-    let mut indices = Vec::new(alloc);
-    for probe in 0..firings.probe_count() {
-        indices.push(list_for(alloc, lists, table, &firings.probe(probe))?)?;
-    }
-    Ok(indices)
 }
 
 // The index of the list for a probe.

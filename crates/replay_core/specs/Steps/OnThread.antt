@@ -11,10 +11,10 @@ use Rattle.replay_core.specs.{Scripts.AreTypedThreads, Seen.piece_seen}
 use Rattle.replay_core.specs.Steps.AllMade.{all_made}
 
 -- the clauses at these indices are there, and a piece has room for what they contribute
-pub record AreRunnable {C : Type 0} (indices most : C → ℕ) (clauses : List C) (chosen : List ℕ)
-    (p : Piece) : Type 0 where
+pub record AreRunnable {C : Type 0} (indices most probes : C → ℕ) (clauses : List C)
+    (chosen : List ℕ) (p : Piece) : Type 0 where
   pub there : All (λ index. index < length clauses) chosen
-  pub bounded : AreBounded indices most clauses (functions_of p.table)
+  pub bounded : AreBounded indices most probes clauses (functions_of p.table)
   pub room : count_held p.table + MAX_BYTES * length chosen ≤ 2 ^ 52
 
 -- what the clauses at these indices make of what the firing's thread has

@@ -70,7 +70,7 @@ pub(crate) fn run_clauses<C: Clause>(
     state: &mut State<'_, '_, C::Store>,
     piece: &mut Piece,
 ) -> Result<bool, AllocError>
-    requires runnable { AreRunnable C.indices C.most clauses.now indices.now piece.old }
+    requires runnable { AreRunnable C.indices C.most C.probes clauses.now indices.now piece.old }
     requires taken { HasTaken state.old piece.old }
     ensures more { HasMore (MAX_BYTES * length indices.now) piece.old piece.new }
     ensures state { Stays C.Store.seen state.old state.new }

@@ -1,6 +1,6 @@
 //! Lanes that run compiled scripts.
 
-ghost use Rattle.std.specs.Prelude.{◌≡◌, IfOk, false};
+ghost use Rattle.std.specs.Prelude.{◌≡◌, IfOk};
 ghost use Rattle.replay_core.specs.Vocabulary.{ScriptMeant};
 ghost use Rattle.replay_core.specs.{Compiled.IsCompiled, Lanes.IsFresh};
 
@@ -25,8 +25,8 @@ pub fn dif_lane(
     requires { (m : ScriptMeant) × IsCompiled m program.now }
     ensures script { IfOk result (λ l. (m : ScriptMeant) → IsCompiled m program.now
         → ⟦<DifLane<'static> as Engine>⟧.runs l m) }
-    ensures fresh { IfOk result (λ l. IsFresh (⟦<DifLane<'static> as Engine>⟧.seen l)) }
-    ensures unspent { IfOk result (λ l. l.spent ≡ false) }
+    ensures fresh { IfOk result
+        (λ l. IsFresh l.spent (⟦<DifLane<'static> as Engine>⟧.seen l)) }
 {
     let functions = Vec::from_slice(alloc, program.aggs())?;
     Lane::new(alloc, hash_key, program.clauses(), functions)

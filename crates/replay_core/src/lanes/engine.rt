@@ -10,7 +10,7 @@ use std::alloc::{AllocError, Global};
 
 /// Runs firings for a script, in the order in which it is given them.
 pub trait Engine {
-    ghost use Rattle.replay_core.specs.Vocabulary.{HasRanges, MAX_BYTES, ScriptMeant};
+    ghost use Rattle.replay_core.specs.Vocabulary.{MAX_BYTES, ScriptMeant};
     ghost use Rattle.replay_core.specs.{Selecting.selected_for, Sizes.most_firings};
     ghost use Rattle.replay_core.specs.Lanes.{Fires, LaneSeen};
     ghost use Rattle.replay_core.specs.Meaning.{exit_of, history};
@@ -28,7 +28,6 @@ pub trait Engine {
     /// Runs the clauses that are selected for a firing, and returns whether it exits. Once memory
     /// was refused, each later call is refused too.
     fn fire(&mut self, firing: &Firing) -> Result<bool, AllocError>
-        requires ranges { HasRanges firing.now }
         requires script { (m : ScriptMeant) × runs self.old m }
         requires few { length (seen self.old).piece.taken < most_firings }
         ensures step { (m : ScriptMeant) → runs self.old m
@@ -47,7 +46,6 @@ pub trait Engine {
         firing: &Firing,
         indices: &ClauseIndices,
     ) -> Result<bool, AllocError>
-        requires ranges { HasRanges firing.now }
         requires selected { (m : ScriptMeant) × runs self.old m
             × (indices.now ≡ selected_for m firing.now) }
         requires indices { length indices.now ≤ MAX_BYTES }

@@ -1,7 +1,7 @@
 //! Lanes: what all engines share.
 
-ghost use Rattle.std.specs.Prelude.{◌≡◌, ◌<◌, ◌≤◌, IfOk, false, true, length, sum_by};
-ghost use Rattle.replay_core.specs.Vocabulary.{HasRanges, MAX_BYTES, ScriptMeant, functions_in};
+ghost use Rattle.std.specs.Prelude.{◌≡◌, ◌<◌, ◌≤◌, IfOk, false, true, length};
+ghost use Rattle.replay_core.specs.Vocabulary.{MAX_BYTES, ScriptMeant, functions_in};
 ghost use Rattle.replay_core.specs.Vocabulary.{functions_of, slots_of};
 ghost use Rattle.replay_core.specs.{Selecting.selected_for, Sizes.most_firings, Threads.threads_of};
 ghost use Rattle.replay_core.specs.{Bounds.AreBounded, Lanes.IsFresh};
@@ -17,6 +17,7 @@ use crate::lanes::threads::run_on_thread;
 use crate::selection::clause_indices::ClauseIndices;
 use crate::selection::clauses_for;
 use aggregations::AggFn;
+use d_types::meaning::built_ins_are_of_their_types;
 use firings::Firing;
 use keyed_hash::HashKey;
 use std::alloc::{AllocError, Global};
@@ -30,8 +31,7 @@ pub struct Lane<'a, C: Clause> {
     piece: Piece,
     // Memory was refused to a firing.
     spent: bool,
-    ghost bounded: { AreBounded C.indices C.most clauses.now (functions_of piece.table) },
-    ghost probes: { sum_by C.probes clauses.now ≤ MAX_BYTES },
+    ghost bounded: { AreBounded C.indices C.most C.probes clauses.now (functions_of piece.table) },
     ghost room: { IsRoomy piece },
 }
 
@@ -48,13 +48,11 @@ impl<'a, C: Clause> Lane<'a, C> {
         clauses: &'a [C],
         functions: Vec<AggFn>,
     ) -> Result<Lane<'a, C>, AllocError>
-        requires bounded { AreBounded C.indices C.most clauses.now functions.items }
-        requires probes { sum_by C.probes clauses.now ≤ MAX_BYTES }
+        requires { AreBounded C.indices C.most C.probes clauses.now functions.items }
         ensures script { IfOk result (λ l. (m : ScriptMeant)
             → AllMean C.means (slots_of m) clauses.now m.clauses → functions.items ≡ functions_in m
             → ⟦<Lane<'a, C> as Engine>⟧.runs l m) }
-        ensures fresh { IfOk result (λ l. IsFresh (⟦<Lane<'a, C> as Engine>⟧.seen l)) }
-        ensures unspent { IfOk result (λ l. l.spent ≡ false) }
+        ensures fresh { IfOk result (λ l. IsFresh l.spent (⟦<Lane<'a, C> as Engine>⟧.seen l)) }
     {
         let piece = Piece::new(alloc, hash_key, functions)?;
         let Ok(store) = C::Store::new(alloc, hash_key) else {
@@ -72,7 +70,6 @@ impl<'a, C: Clause> Lane<'a, C> {
 
     // Takes the firing's number, and runs the clauses at these indices for it.
     fn run(&mut self, firing: &Firing, indices: &ClauseIndices) -> Result<bool, AllocError>
-        requires ranges { HasRanges firing.now }
         requires selected { (m : ScriptMeant)
             × RunsAs C.means self.old.clauses.now (functions_of self.old.piece.table) m
             × (indices.now ≡ selected_for m firing.now) }
@@ -91,6 +88,7 @@ impl<'a, C: Clause> Lane<'a, C> {
             (lane_seen (C.Store.seen self.old.store) self.old.piece)
             (lane_seen (C.Store.seen self.new.store) self.new.piece) exits) }
     {
+        built_ins_are_of_their_types(firing);
         self.piece.taken.push(firing.number)?;
         run_on_thread(
             self.clauses,

@@ -1,11 +1,10 @@
 //! What a lane's firings made.
 
-ghost use Rattle.std.specs.Prelude.{◌≡◌, ◌+◌, ◌++◌, ◌∷◌, [], ℕ, All, Contains, IfOk, OnOk, take};
+ghost use Rattle.std.specs.Prelude.{◌≡◌, ◌++◌, ◌∷◌, [], All, Contains, IfOk, OnOk, take};
 ghost use Rattle.replay_core.specs.Vocabulary.{Effect, fault_line, functions_of};
-ghost use Rattle.numbered.specs.Words.{key_in};
 
-use aggregations::{AggFn, AggTable, WordKey};
-use d_values::{Key, Text};
+use aggregations::{AggFn, AggTable};
+use d_values::Text;
 use itoa::Buffer;
 use keyed_hash::HashKey;
 use std::alloc::{AllocError, Global};
@@ -25,9 +24,8 @@ pub struct Piece {
 }
 
 impl Piece {
-    ghost use Rattle.replay_core.specs.{Effects.HasMore, Effects.HasRoom, Seen.piece_seen};
-    ghost use Rattle.replay_core.specs.Steps.{Effects.KeepsTable, Effects.NotesEffect};
-    ghost use Rattle.replay_core.specs.Steps.{Seen.IsEmptyPiece};
+    ghost use Rattle.replay_core.specs.{Seen.piece_seen, Steps.Seen.IsEmptyPiece};
+    ghost use Rattle.replay_core.specs.Steps.Effects.{KeepsTable, NotesEffect};
 
     /// A piece of no firing, with aggregations of these functions.
     pub(crate) fn new(
@@ -77,51 +75,6 @@ impl Piece {
     {
         self.events.push((number, text))?;
         Ok(())
-    }
-
-    /// Notes what an aggregation is given under a key.
-    pub(crate) fn note_contribution(
-        &mut self,
-        index: usize,
-        key: &Key,
-        argument: i64,
-    ) -> Result<(), AllocError>
-        requires { HasRoom (index + 1) 1 self.old }
-        ensures more { HasMore 1 self.old self.new }
-        ensures notes { OnOk result ((number : ℕ)
-            → NotesEffect number (Effect.Adds index key.now argument) (piece_seen self.old)
-            (piece_seen self.new)) }
-    {
-        self.table.add(index, key, argument)
-    }
-
-    /// Notes what an aggregation is given under the key that words make.
-    #[inline(always)]
-    pub(crate) fn note_contribution_of_words(
-        &mut self,
-        index: usize,
-        made: WordKey<'_>,
-        argument: i64,
-    ) -> Result<(), AllocError>
-        requires { HasRoom (index + 1) 1 self.old }
-        ensures more { HasMore 1 self.old self.new }
-        ensures notes { OnOk result ((number : ℕ)
-            → NotesEffect number
-            (Effect.Adds index (key_in made.entry.texts.now made.entry.words.now) argument)
-            (piece_seen self.old) (piece_seen self.new)) }
-    {
-        self.table.add_words(index, made, argument)
-    }
-
-    /// Notes an exit at the firing of this number: the first counts.
-    pub(crate) fn note_exit(&mut self, number: u64, status: u8)
-        ensures kept { KeepsTable self.old self.new }
-        ensures notes { NotesEffect number (Effect.Exits status) (piece_seen self.old)
-            (piece_seen self.new) }
-    {
-        if self.exit.is_none() {
-            self.exit = Some((number, status));
-        }
     }
 
     /// Notes a fault of the clause at this index, from 1, at the firing of this number, which was

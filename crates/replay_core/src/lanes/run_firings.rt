@@ -1,8 +1,8 @@
 //! The firings of a run.
 
 ghost use Rattle.std.specs.Prelude.{◌≡◌, ◌<◌, ◌≤◌, Some, length, slice_get};
-ghost use Rattle.replay_core.specs.{Sizes.most_firings, Vocabulary.HasRanges, Vocabulary.with_ends};
-ghost use Rattle.replay_core.specs.Vocabulary.{IsTrace, row_before};
+ghost use Rattle.replay_core.specs.{Sizes.most_firings, Vocabulary.with_ends};
+ghost use Rattle.replay_core.specs.Vocabulary.{row_before};
 
 use firings::{Firing, FiringRows, Trace};
 
@@ -11,7 +11,6 @@ use firings::{Firing, FiringRows, Trace};
 pub(crate) fn firing_at(trace: &Trace, index: u32) -> Firing<'_>
     requires { index < length (with_ends trace.now trace.now) }
     ensures firing { slice_get (with_ends trace.now trace.now) index ≡ Some result }
-    ensures ranges { HasRanges result }
     ensures few { length (with_ends trace.now trace.now) ≤ most_firings }
 {
     let rows = trace.firings();
@@ -32,11 +31,9 @@ pub(crate) fn read_at<'a>(
     rows: &FiringRows<'a>,
     at: usize,
 ) -> Firing<'a>
-    requires trace { IsTrace trace.now }
     requires row { slice_get rows.now at ≡ Some (row_before trace.now index) }
     requires within { index < length (with_ends trace.now trace.now) }
-    ensures firing { slice_get (with_ends trace.now trace.now) index ≡ Some result }
-    ensures ranges { HasRanges result }
+    ensures { slice_get (with_ends trace.now trace.now) index ≡ Some result }
 {
     match rows.get(at) {
         Some(firing) => firing,

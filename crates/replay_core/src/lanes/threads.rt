@@ -24,7 +24,7 @@ pub(crate) fn run_on_thread<'a, C: Clause>(
     store: &mut C::Store,
     piece: &mut Piece,
 ) -> Result<bool, AllocError>
-    requires runnable { AreRunnable C.indices C.most clauses.now indices.now piece.old }
+    requires runnable { AreRunnable C.indices C.most C.probes clauses.now indices.now piece.old }
     requires taken { Contains piece.old.taken.items firing.now.number }
     ensures more { HasMore (MAX_BYTES * length indices.now) piece.old piece.new }
     ensures run { IfOk result (λ exits. (slots : Slots) (cs : List ClauseMeant)

@@ -1,6 +1,6 @@
 //! Lanes that walk the trees of a script.
 
-ghost use Rattle.std.specs.Prelude.{◌≡◌, IfOk, false};
+ghost use Rattle.std.specs.Prelude.{◌≡◌, IfOk};
 ghost use Rattle.replay_core.specs.Vocabulary.{ScriptMeant, typed_script_of};
 ghost use Rattle.replay_core.specs.Lanes.{IsFresh};
 
@@ -28,8 +28,8 @@ pub fn tree_lane(
 ) -> Result<TreeLane<'_>, AllocError>
     ensures script { IfOk result (λ l. (m : ScriptMeant) → m ≡ typed_script_of script.now
         → ⟦<TreeLane<'static> as Engine>⟧.runs l m) }
-    ensures fresh { IfOk result (λ l. IsFresh (⟦<TreeLane<'static> as Engine>⟧.seen l)) }
-    ensures unspent { IfOk result (λ l. l.spent ≡ false) }
+    ensures fresh { IfOk result
+        (λ l. IsFresh l.spent (⟦<TreeLane<'static> as Engine>⟧.seen l)) }
 {
     let functions = script.functions(alloc)?;
     Lane::new(alloc, hash_key, script.clauses(), functions)

@@ -3,18 +3,17 @@
 ghost use Rattle.std.specs.Prelude.{◌≡◌, [], IfOk};
 ghost use Rattle.numbered.specs.Texts.{Keeps};
 ghost use Rattle.dif_codegen.specs.Meaning as spec;
-ghost use Rattle.dif_machine.specs.Machine.{IsWithin, Knows, value_of, word_result};
+ghost use Rattle.dif_machine.specs.Machine.{IsWithin, Knows, word_result};
 ghost use Rattle.replay_core.specs.{Evaluation.Returns, Steps.Evaluation.evaluation_of};
 ghost use Rattle.replay_core.specs.WordStore.{words_seen};
 
 use crate::evaluation::EvalFault;
 use crate::lanes::store::Store;
-use d_values::Value;
 use dif_codegen::TypedObject;
 use dif_machine::{LaneMemory, Machine, MachineFault};
 use firings::Firing;
 use keyed_hash::HashKey;
-use numbered::{Texts, Word};
+use numbered::Word;
 use std::alloc::{AllocError, Global};
 use std::marker::Model;
 use std::mem::replace;
@@ -99,13 +98,6 @@ impl Words {
         evaluated(run)
     }
 
-    /// The value of a word.
-    pub(crate) fn value(&self, word: Word) -> Result<Value, AllocError>
-        ensures { IfOk result (λ value. value ≡ value_of self.now.texts word) }
-    {
-        self.machine.value(word)
-    }
-
     /// Takes an empty list for the words of a key.
     #[inline(always)]
     pub(crate) fn take_key(&mut self) -> Vec<Word>
@@ -126,12 +118,12 @@ impl Words {
         self.room = key;
     }
 
-    /// The texts that have numbers.
+    /// The machine, which has the texts of words.
     #[inline(always)]
-    pub(crate) fn texts(&self) -> &Texts
-        ensures { result.now ≡ self.now.texts }
+    pub(crate) fn machine(&self) -> &Machine
+        ensures { result.now.texts ≡ self.now.texts }
     {
-        self.machine.texts()
+        &self.machine
     }
 }
 

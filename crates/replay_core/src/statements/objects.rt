@@ -1,6 +1,6 @@
 //! Objects, run by the machine.
 
-ghost use Rattle.std.specs.Prelude.{◌≡◌, ◌+◌, [], All, List, OnOk, map, ℕ};
+ghost use Rattle.std.specs.Prelude.{◌≡◌, ◌+◌, [], All, List, OnOk, ℕ};
 ghost use Rattle.d_types.specs.Storage.{word_of};
 ghost use Rattle.d_types.specs.Typed as typed;
 ghost use Rattle.dif_codegen.specs.Meaning as spec;
@@ -90,25 +90,8 @@ fn run_for_value(object: &TypedObject, state: &mut State<'_, '_, Words>) -> Resu
         result state.old state.new }
 {
     let word = state.store.run(object, state.firing)?;
-    let value = state.store.value(word)?;
+    let value = state.store.machine().value(word)?;
     Ok(value)
-}
-
-// From left to right.
-fn run_for_arguments(
-    objects: &[TypedObject],
-    state: &mut State<'_, '_, Words>,
-) -> Result<Arguments, EvalFault>
-    ensures { Meets words_seen
-        (λ f. spec.values_of_objects f (map (λ x. x.returns) objects.now) objects.now)
-        result state.old state.new }
-{
-    let mut values = Vec::new(state.alloc);
-    for object in objects {
-        let value = run_for_value(object, state)?;
-        values.push((object.returns, value))?;
-    }
-    Ok(Arguments { values })
 }
 
 // `@name[keys] = function(argument)`
@@ -129,11 +112,11 @@ fn aggregate(
     let hash = run_for_key(keys, &mut key, state)?;
     let given = run_for_argument(argument, state)?;
     let made = WordKey {
-        texts: state.store.texts(),
+        texts: state.store.machine().texts(),
         words: &key,
         hash,
     };
-    piece.note_contribution_of_words(index, made, given)?;
+    piece.table.add_words(index, made, given)?;
     state.store.keep_key(key);
     Ok(false)
 }
@@ -162,7 +145,12 @@ impl Expression for TypedObject {
         arguments: &[TypedObject],
         state: &mut State<'_, '_, Words>,
     ) -> Result<Arguments, EvalFault> {
-        run_for_arguments(arguments, state)
+        let mut values = Vec::new(state.alloc);
+        for object in arguments {
+            let value = run_for_value(object, state)?;
+            values.push((object.returns, value))?;
+        }
+        Ok(Arguments { values })
     }
 }
 

@@ -82,7 +82,7 @@ pub(crate) fn print<X: Expression>(
     Ok(false)
 }
 
-/// `exit(status)`
+/// `exit(status)`: the first counts.
 pub(crate) fn exit<X: Expression>(
     e: &X,
     state: &mut State<'_, '_, X::Store>,
@@ -93,7 +93,8 @@ pub(crate) fn exit<X: Expression>(
         state.old state.new piece.old piece.new }
 {
     let word = e.evaluate_word(state)?;
-    piece.note_exit(state.firing.number, (word % 256) as u8);
+    let exit = (state.firing.number, (word % 256) as u8);
+    piece.exit = piece.exit.or(Some(exit));
     Ok(true)
 }
 

@@ -1,12 +1,9 @@
 //! Trees, walked.
 
-ghost use Rattle.std.specs.Prelude.{◌+◌, map};
-ghost use Rattle.d_types.specs.Clauses as spec;
+ghost use Rattle.std.specs.Prelude.{◌+◌};
 ghost use Rattle.d_types.specs.Typed as typed;
-ghost use Rattle.replay_core.specs.{Effects.HasMore, Effects.HasRoom, Evaluation.Meets};
-ghost use Rattle.replay_core.specs.Threads.{tables_seen};
-ghost use Rattle.replay_core.specs.Steps.Effects.{IsPerformed};
-ghost use Rattle.replay_core.specs.Vocabulary.{effect_by, typeds_of};
+ghost use Rattle.replay_core.specs.{Effects.HasMore, Effects.HasRoom, Threads.tables_seen};
+ghost use Rattle.replay_core.specs.{Steps.Effects.IsPerformed, Vocabulary.effect_by};
 ghost use Rattle.replay_core.specs.Forms.{by_expressions, expression_type, statement_form};
 
 use crate::evaluation::{EvalFault, evaluate, evaluate_key};
@@ -17,23 +14,6 @@ use crate::statements::expression::{Arguments, Expression};
 use crate::statements::statement::{Statement, evaluate_argument, exit, plain, print, trace};
 use d_types::{TypedExpr, TypedStmt};
 use d_values::{DType, Value};
-
-// From left to right.
-fn evaluate_arguments(
-    arguments: &[TypedExpr],
-    state: &mut State<'_, '_, Tables>,
-) -> Result<Arguments, EvalFault>
-    ensures { Meets tables_seen
-        (λ f. spec.values_of f (map expression_type arguments.now) (typeds_of arguments.now))
-        result state.old state.new }
-{
-    let mut values = Vec::new(state.alloc);
-    for argument in arguments {
-        let value = evaluate(argument, state)?;
-        values.push((argument.type_of(), value))?;
-    }
-    Ok(Arguments { values })
-}
 
 // `@name[keys] = function(argument)`
 fn aggregate(
@@ -51,7 +31,7 @@ fn aggregate(
 {
     let key = evaluate_key(keys, state)?;
     let number = evaluate_argument(argument, state)?;
-    piece.note_contribution(index, &key, number)?;
+    piece.table.add(index, &key, number)?;
     Ok(false)
 }
 
@@ -74,7 +54,12 @@ impl Expression for TypedExpr {
         arguments: &[TypedExpr],
         state: &mut State<'_, '_, Tables>,
     ) -> Result<Arguments, EvalFault> {
-        evaluate_arguments(arguments, state)
+        let mut values = Vec::new(state.alloc);
+        for argument in arguments {
+            let value = evaluate(argument, state)?;
+            values.push((argument.type_of(), value))?;
+        }
+        Ok(Arguments { values })
     }
 }
 

@@ -8,7 +8,7 @@ ghost use Rattle.replay_core.specs.Steps.{Adding.IsAdded, Working.IsInput, Worki
 ghost use Rattle.replay_core.specs.AtBoard.{GivesBegun, IsWorkOf};
 ghost use Rattle.replay_core.specs.Beginnings.{IsBegunOf, lesser_of};
 ghost use Rattle.replay_core.specs.Steps.Beginnings.{RunsBeginning};
-ghost use Rattle.replay_core.specs.{Selecting.AreFor, Working.IsReady};
+ghost use Rattle.replay_core.specs.{Selecting.AreFor, Working.IsReady, Working.IsSeated};
 
 use crate::lanes::Lanes;
 use crate::lanes::engine::Engine;
@@ -17,7 +17,7 @@ use crate::lanes::run_firings::firing_at;
 use crate::workers::gate::Gate;
 use crate::workers::source::Exits;
 use crate::workers::worker::{WorkerInput, fire};
-use firings::{Firing, Trace};
+use firings::Trace;
 use shard_queue::Groups;
 use std::alloc::{AllocError, Global};
 use std::sync::Wait;
@@ -42,9 +42,8 @@ pub fn work_until<R: Wait, S: Exits, L: Lanes, G: Gate>(
 ) -> Result<(Vec<(u32, Piece)>, S::Seat), AllocError>
 where
     S::Seat: Drop,
-    requires seat { S.is_at source.now seat × ((S.handed seat).numbers ≡ []) }
+    requires seat { IsSeated S.end S.is_at S.handed source.now seat groups.now }
     requires new { S.lowered seat ≡ no_number }
-    requires end { S.end source.now ≡ (grouping groups.now).count }
     requires ready { IsReady (L.runs lanes.now) groups.now trace.now }
     ensures { IfOk result (IsWorkOf (S.is_at source.now) S.handed
         (GivesBegun S.seen S.lowered (L.runs lanes.now) groups.now trace.now)) }
@@ -73,9 +72,8 @@ pub(crate) fn watch_on<R: Wait, S: Exits, L: Lanes, G: Gate>(
 ) -> Result<(Vec<(u32, Piece)>, S::Seat), AllocError>
 where
     S::Seat: Drop,
-    requires seat { S.is_at source.now seat × ((S.handed seat).numbers ≡ []) }
+    requires seat { IsSeated S.end S.is_at S.handed source.now seat input.now.groups.now }
     requires new { S.lowered seat ≡ no_number }
-    requires end { S.end source.now ≡ (grouping input.now.groups.now).count }
     requires ready { IsInput (L.runs input.now.lanes.now) input.now }
     ensures { IfOk result (IsWorkOf (S.is_at source.entry.now) S.handed (GivesBegun S.seen S.lowered
         (L.runs input.entry.now.lanes.now) input.entry.now.groups.now input.entry.now.trace.now)) }

@@ -2,13 +2,13 @@
 
 ghost use Rattle.std.specs.Prelude.{◌≡◌, ◌+◌, ◌<◌, ◌≤◌, ◌∷◌, ◌++◌, [], List, filter, All, IfOk};
 ghost use Rattle.std.specs.Prelude.{IfSome, OnOk, is_some, length};
-ghost use Rattle.replay_core.specs.Vocabulary.{Firing, HasRanges, MAX_BYTES, MAX_TOGETHER};
+ghost use Rattle.replay_core.specs.Vocabulary.{Firing, MAX_BYTES, MAX_TOGETHER};
 ghost use Rattle.replay_core.specs.Vocabulary.{ScriptMeant, grouping, with_ends};
 ghost use Rattle.replay_core.specs.{Running.IsLaneOf, Seen.IsRoomy, Sizes.most_firings};
 ghost use Rattle.replay_core.specs.{Lanes.Fires, Meaning.exit_of, Meaning.history};
 ghost use Rattle.replay_core.specs.Selecting.{AreFor, selected_for};
 ghost use Rattle.replay_core.specs.AtBoard.{GivesPieces, IsWorkOf};
-ghost use Rattle.replay_core.specs.Working.{IsOfGroup, IsReady, firings_in, is_in};
+ghost use Rattle.replay_core.specs.Working.{IsOfGroup, IsReady, IsSeated, firings_in, is_in};
 ghost use Rattle.replay_core.specs.Steps.{Adding.IsAdded, Working.IsInput, Working.firings_at};
 
 use crate::lanes::Lanes;
@@ -59,8 +59,7 @@ pub fn work<R: Wait, S: Source, L: Lanes, G: Gate>(
 ) -> Result<(Vec<(u32, Piece)>, S::Seat), AllocError>
 where
     S::Seat: Drop,
-    requires seat { S.is_at source.now seat × ((S.handed seat).numbers ≡ []) }
-    requires end { S.end source.now ≡ (grouping groups.now).count }
+    requires seat { IsSeated S.end S.is_at S.handed source.now seat groups.now }
     requires ready { IsReady (L.runs lanes.now) groups.now trace.now }
     ensures { IfOk result (IsWorkOf (S.is_at source.now) S.handed
         (GivesPieces (L.runs lanes.now) groups.now (with_ends trace.now trace.now))) }
@@ -90,8 +89,7 @@ pub(crate) fn work_on<R: Wait, S: Source, L: Lanes, G: Gate>(
 ) -> Result<(Vec<(u32, Piece)>, S::Seat), AllocError>
 where
     S::Seat: Drop,
-    requires seat { S.is_at source.now seat × ((S.handed seat).numbers ≡ []) }
-    requires end { S.end source.now ≡ (grouping input.now.groups.now).count }
+    requires seat { IsSeated S.end S.is_at S.handed source.now seat input.now.groups.now }
     requires ready { IsInput (L.runs input.now.lanes.now) input.now }
     ensures { IfOk result (IsWorkOf (S.is_at source.entry.now) S.handed
         (GivesPieces (L.runs input.entry.now.lanes.now) input.entry.now.groups.now
@@ -183,7 +181,6 @@ pub(crate) fn fire<E: Engine>(
     firing: &Firing,
     clauses: Option<&ClauseIndices>,
 ) -> Result<bool, AllocError>
-    requires ranges { HasRanges firing.now }
     requires selected { (m : ScriptMeant) × E.runs lane.old m
         × IfSome clauses (λ c. c.now ≡ selected_for m firing.now) }
     requires clauses { IfSome clauses (λ c. length c.now ≤ MAX_BYTES) }

@@ -1,4 +1,4 @@
-use Rattle.d_types.proofs.FiringValues.{firing_is, locals_unassigned, own_unassigned}
+use Rattle.d_types.proofs.FiringValues.{locals_unassigned, own_unassigned}
 use Rattle.d_types.proofs.HoldingRuns.{run_kept}
 use Rattle.d_types.proofs.meaning.variables_keep_their_types.Goals as goal
 
@@ -10,6 +10,3 @@ returns-clause-locals c slots = locals_unassigned slots
 
 pub returns-clause-own : goal.returns-clause-own
 returns-clause-own c slots = own_unassigned slots
-
-pub returns-clause-firing : goal.returns-clause-firing
-returns-clause-firing c f is = firing_is f is

@@ -1,4 +1,4 @@
-use Rattle.std.specs.Prelude.{◌≡◌, ◌≤◌, All, length, map, sum_by}
+use Rattle.std.specs.Prelude.{◌≡◌, ◌≤◌, All, length, map}
 use Rattle.std.specs.List.{AllZip}
 use Rattle.std.proofs.Common.{ap, subst, sym, ◌∙◌}
 use Rattle.std.proofs.lemmas.List.{length-map}
@@ -11,21 +11,17 @@ use Rattle.replay_core.proofs.ProgramLemmas.{program_few, program_few_probes, pr
 use Rattle.replay_core.proofs.TreeLemmas.{script_keeps}
 use Rattle.replay_core.proofs.lanes.compiled.dif_lane.Goals as goal
 
-pub new-requires-clause-bounded : goal.new-requires-clause-bounded
-new-requires-clause-bounded c =
+pub new-requires : goal.new-requires
+new-requires c =
     let (m, compiled) = c.requires in
     let p = c.args.program.now in
     let many : length c.in_ok-functions.functions.items ≡ length m.aggregations =
     ap length (c.in_ok-functions.ensures.items ∙ c.aggs.ensures ∙ compiled.program.have_functions) ∙ length-map m.aggregations (λ a. a.function) in
-    subst (λ l. AreBounded (λ x. indices_among (map action_code x.actions.items)) (λ x. length x.actions.items) l c.in_ok-functions.functions.items) (sym c.clauses.ensures) (record {
+    subst (λ l. AreBounded (λ x. indices_among (map action_code x.actions.items)) (λ x. length x.actions.items) (λ x. length x.descriptions.items) l c.in_ok-functions.functions.items) (sym c.clauses.ensures) (record {
       named = subst (λ n. All (λ x. indices_among (map action_code x.actions.items) ≤ n) p.clauses.items) (sym many) (program_named m compiled.typed p.clauses.items compiled.program.do_the_same);
       few = program_few m compiled.typed p.clauses.items compiled.program.do_the_same;
+      described = program_few_probes m compiled.typed p.clauses.items compiled.program.do_the_same;
     })
-
-pub new-requires-clause-probes : goal.new-requires-clause-probes
-new-requires-clause-probes c =
-    let (m, compiled) = c.requires in
-    subst (λ l. sum_by (λ x. length x.descriptions.items) l ≤ 65536) (sym c.clauses.ensures) (program_few_probes m compiled.typed c.args.program.now.clauses.items compiled.program.do_the_same)
 
 pub returns-clause-script : goal.returns-clause-script
 returns-clause-script c =

@@ -1,14 +1,8 @@
-use Rattle.std.proofs.Common.{◌≡◌, ◌-◌, ◌+◌, ◌∷◌, [], ◌∙◌, Some, ap, length, slice_get, sym, subst, arith}
+use Rattle.std.proofs.Common.{◌≡◌, ◌-◌, ◌+◌, ◌∷◌, [], ◌∙◌, Some, ap, length, slice_get, sym, arith}
 use Rattle.std.proofs.lemmas.List.{length-append}
 use Rattle.firings.specs.Ends.{end_of}
-use Rattle.firings.specs.Firings.{HasRanges, IsFiring}
-use Rattle.firings.proofs.EndRanges.{ends}
 use Rattle.replay_core.proofs.TraceRuns.{at_end, at_row, run_few}
-use Rattle.replay_core.proofs.WorkSteps.{at_of}
 use Rattle.replay_core.proofs.lanes.run_firings.firing_at.Goals as goal
-
-pub returns-then-index-eq0-clause-ranges : goal.returns-then-index-eq0-clause-ranges
-returns-then-index-eq0-clause-ranges c = subst HasRanges (sym c.begin.ensures) (ends c.args.trace.now c.firings-rows.ensures.trace).0
 
 pub returns-then-index-eq0-clause-few : goal.returns-then-index-eq0-clause-few
 returns-then-index-eq0-clause-few c = run_few c.args.trace.now c.firings-rows.ensures.trace
@@ -18,11 +12,6 @@ returns-then-row-len-clause-firing c =
     let found : slice_get c.args.trace.now (c.args.index - 1) ≡ Some c.get.result = rw (c.firings-rows.ensures.value) at c.get.ensures in
     at_row c.args.trace.now c.args.index c.get.result (omega arith) found
 
-pub returns-then-row-len-clause-ranges : goal.returns-then-row-len-clause-ranges
-returns-then-row-len-clause-ranges c =
-    let found : slice_get c.args.trace.now (c.args.index - 1) ≡ Some c.get.result = rw (c.firings-rows.ensures.value) at c.get.ensures in
-    (at_of IsFiring c.args.trace.now (c.args.index - 1) c.get.result c.firings-rows.ensures.trace.firings found).ranges
-
 pub returns-clause-firing : goal.returns-clause-firing
 returns-clause-firing c =
     let trace = c.args.trace.now in
@@ -31,6 +20,3 @@ returns-clause-firing c =
     let within = c.requires in
     let last : c.args.index ≡ length trace + 1 = omega (arith, c.len.ensures, c.if-row-len.false, c.if-index-eq0.false) in
     at_end trace c.args.index last ∙ ap Some (sym c.end.ensures)
-
-pub returns-clause-ranges : goal.returns-clause-ranges
-returns-clause-ranges c = subst HasRanges (sym c.end.ensures) (ends c.args.trace.now c.firings-rows.ensures.trace).1

@@ -1,16 +1,10 @@
 use Rattle.std.proofs.Common.{◌≡◌, Some, sym, ◌∙◌}
 use Rattle.firings.specs.Stored.{row_before}
-use Rattle.replay_core.proofs.FetchLemmas.{row_at, row_ranges}
+use Rattle.replay_core.proofs.FetchLemmas.{row_at}
 use Rattle.replay_core.proofs.lanes.run_firings.read_at.Goals as goal
 
-pub returns-in-Some-clause-ranges : goal.returns-in-Some-clause-ranges
-returns-in-Some-clause-ranges c =
-    let found : Some (row_before c.args.trace.now c.args.index) ≡ Some (Some c.in-Some.firing) = sym c.requires.row ∙ c.in-Some.ensures in
-    let is : row_before c.args.trace.now c.args.index ≡ Some c.in-Some.firing = cc in
-    row_ranges c.args.trace.now c.args.index c.in-Some.firing c.requires.trace is
-
-pub returns-in-Some-clause-firing : goal.returns-in-Some-clause-firing
-returns-in-Some-clause-firing c =
+pub returns-in-Some : goal.returns-in-Some
+returns-in-Some c =
     let found : Some (row_before c.args.trace.now c.args.index) ≡ Some (Some c.in-Some.firing) = sym c.requires.row ∙ c.in-Some.ensures in
     let is : row_before c.args.trace.now c.args.index ≡ Some c.in-Some.firing = cc in
     row_at c.args.trace.now c.args.index c.in-Some.firing is

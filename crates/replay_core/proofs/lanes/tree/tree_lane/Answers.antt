@@ -1,4 +1,4 @@
-use Rattle.std.specs.Prelude.{◌≡◌, ◌≤◌, All, length, map, sum_by}
+use Rattle.std.specs.Prelude.{◌≡◌, ◌≤◌, All, length, map}
 use Rattle.std.proofs.Common.{ap, subst, sym, ◌∙◌}
 use Rattle.std.proofs.lemmas.List.{length-map}
 use Rattle.std.proofs.lemmas.Result.{IfOk-weaker}
@@ -11,20 +11,16 @@ use Rattle.replay_core.proofs.TreeLemmas.{all_few, all_named, few_probes, functi
 use Rattle.replay_core.proofs.TreeLemmas.{trees_mean}
 use Rattle.replay_core.proofs.lanes.tree.tree_lane.Goals as goal
 
-pub new-requires-clause-bounded : goal.new-requires-clause-bounded
-new-requires-clause-bounded c =
+pub new-requires : goal.new-requires
+new-requires c =
     let s = c.args.script.now in
     let many : length c.in_ok-functions.functions.items ≡ length s.aggregations.items =
     ap length c.in_ok-functions.ensures ∙ length-map s.aggregations.items (λ a. a.function) in
-    subst (λ l. AreBounded (λ x. indices_in (meant_of x)) (λ x. statement_count (meant_of x)) l c.in_ok-functions.functions.items) (sym c.clauses.ensures) (record {
+    subst (λ l. AreBounded (λ x. indices_in (meant_of x)) (λ x. statement_count (meant_of x)) (λ x. length x.descriptions.items) l c.in_ok-functions.functions.items) (sym c.clauses.ensures) (record {
       named = subst (λ n. All (λ x. indices_in (meant_of x) ≤ n) s.clauses.items) (sym many) (all_named s.clauses.items s.aggregations.items s.slots.items s.typed);
       few = all_few s.clauses.items s.aggregations.items s.slots.items s.typed;
+      described = few_probes s.clauses.items s.aggregations.items s.slots.items s.typed;
     })
-
-pub new-requires-clause-probes : goal.new-requires-clause-probes
-new-requires-clause-probes c =
-    let s = c.args.script.now in
-    subst (λ l. sum_by (λ x. length x.descriptions.items) l ≤ 65536) (sym c.clauses.ensures) (few_probes s.clauses.items s.aggregations.items s.slots.items s.typed)
 
 pub returns-clause-script : goal.returns-clause-script
 returns-clause-script c =

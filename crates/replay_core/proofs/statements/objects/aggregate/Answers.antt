@@ -1,14 +1,13 @@
-use Rattle.std.specs.Prelude.{◌≡◌, FitsSigned}
+use Rattle.std.specs.Prelude.{◌≡◌, ◌∷◌, ◌++◌, [], FitsSigned}
 use Rattle.std.specs.Int.{w64}
 use Rattle.std.proofs.Common.{refl, rules, subst, sym, ap, ◌∙◌}
 use Rattle.std.proofs.lemmas.Int.{to_z-of_z}
-use Rattle.d_types.specs.declared.effect.Effect.TheVariants as ef
+use Rattle.aggregations.specs.Table.{StandsFor, contribution}
 use Rattle.d_types.specs.Clauses.{argument_by}
 use Rattle.d_types.specs.Expressions.{Has}
 use Rattle.numbered.specs.Words.{key_in}
 use Rattle.dif_codegen.specs.Meaning.{by_objects}
 use Rattle.dif_machine.specs.Machine.{Knows}
-use Rattle.replay_core.specs.Steps.Effects.{NotesEffect}
 use Rattle.replay_core.specs.Seen.{piece_seen}
 use Rattle.replay_core.specs.WordStore.{WordsSeen, words_seen}
 use Rattle.replay_core.proofs.EffectLemmas.{adds}
@@ -44,11 +43,9 @@ returns-clause-effect c =
     let after = (words_seen c.keep_key.new.self).present in
     let key = key_in c.texts.result.now c.deref.result.now in
     let same_key : key ≡ key_in keyed.store.now.texts words =
-    ap (λ t. key_in t c.deref.result.now) c.texts.ensures ∙ ap (key_in given.store.now.texts) c.deref.ensures.value
+    ap (λ t. key_in t c.deref.result.now) (c.texts.ensures ∙ c.machine.ensures) ∙ ap (key_in given.store.now.texts) c.deref.ensures.value
     ∙ key_kept keyed.store.now.texts given.store.now.texts c.in_ok-given.ensures.kept words c.in_ok-hash.ensures.within in
     let fits : FitsSigned w64 number = search rules in
-    let noted = subst (λ y. NotesEffect f.number (ef.Adds c.args.index key y) (piece_seen c.args.piece.now) (piece_seen c.note_contribution_of_words.new.self))
-    (to_z-of_z w64 number fits) (c.in_ok-note_contribution_of_words.ensures.notes f.number) in
     let is_key : by.key c.args.keys.now (words_seen old).present ≡ Has key between =
     ap (λ (w : WordsSeen). by.key c.args.keys.now (words_seen w).present) (sym taken) ∙ meets.made ∙ ap (λ k. Has k between) (sym same_key) in
     let is_given : argument_by by c.args.argument.now between ≡ Has number after =
@@ -60,5 +57,6 @@ returns-clause-effect c =
           (stays_then words_seen keyed given _ c.in_ok-given.ensures.meets.0
           (record { firing = refl; store = refl; at = ap (λ (w : WordsSeen). w.at) left; others = ap (λ (w : WordsSeen). (words_seen w).others) left }))),
       adds f.number c.args.index (by.key c.args.keys.now (words_seen old).present) (argument_by by c.args.argument.now) key number
-          (piece_seen c.args.piece.now) (piece_seen c.note_contribution_of_words.new.self) between after is_key is_given noted,
+          (piece_seen c.args.piece.now) c.add_words.new.self between after is_key is_given c.in_ok-add_words.ensures.functions
+          (λ before stood. subst (λ y. StandsFor c.add_words.new.self (before ++ contribution c.args.index key y ∷ [])) (to_z-of_z w64 number fits) (c.in_ok-add_words.ensures.ok before stood)),
     )

@@ -1,7 +1,6 @@
-use Rattle.std.proofs.Common.{◌%◌, subst}
-use Rattle.d_types.specs.declared.effect.Effect.TheVariants as ef
+use Rattle.std.proofs.Common.{◌%◌, Some, ap, ◌∙◌}
+use Rattle.std.specs.Option.{option_or}
 use Rattle.d_types.specs.Expressions.{number_outcome}
-use Rattle.replay_core.specs.Steps.Effects.{NotesEffect}
 use Rattle.replay_core.specs.Evaluation.{variables_in}
 use Rattle.replay_core.specs.Seen.{piece_seen}
 use Rattle.replay_core.proofs.EffectLemmas.{leaves}
@@ -14,8 +13,8 @@ returns-clause-effect g c =
     let by = g.X.Expression.by f in
     let vars = variables_in g.X.Store.Store.seen c.args.state.now in
     let same = number_stays g.X.Store.Store.seen c.args.state.now c.evaluate_word.new.state c.in_ok-word.ensures.0 in
-    let noted = subst (λ n. NotesEffect n (ef.Exits (c.in_ok-word.word % 256)) (piece_seen c.args.piece.now) (piece_seen c.note_exit.new.self)) same c.note_exit.ensures.notes in (
+    let exits = c.or-piece.ensures ∙ ap (λ n. option_or c.args.piece.now.exit (Some (n, c.in_ok-word.word % 256))) same in (
       c.in_ok-word.ensures.0,
-      leaves f.number (number_outcome (by.value c.args.e.now vars)) c.in_ok-word.word (piece_seen c.args.piece.now) (piece_seen c.note_exit.new.self)
-          (variables_in g.X.Store.Store.seen c.evaluate_word.new.state) c.in_ok-word.ensures.1 noted,
+      leaves f.number (number_outcome (by.value c.args.e.now vars)) c.in_ok-word.word (piece_seen c.args.piece.now) c.or-piece.result
+          (variables_in g.X.Store.Store.seen c.evaluate_word.new.state) c.in_ok-word.ensures.1 exits,
     )

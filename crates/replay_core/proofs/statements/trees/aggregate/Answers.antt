@@ -1,11 +1,10 @@
-use Rattle.std.specs.Prelude.{◌≡◌, FitsSigned}
+use Rattle.std.specs.Prelude.{◌≡◌, ◌∷◌, ◌++◌, [], FitsSigned}
 use Rattle.std.specs.Int.{w64}
 use Rattle.std.proofs.Common.{rules, subst}
 use Rattle.std.proofs.lemmas.Int.{to_z-of_z}
-use Rattle.d_types.specs.declared.effect.Effect.TheVariants as ef
+use Rattle.aggregations.specs.Table.{StandsFor, contribution}
 use Rattle.d_types.specs.Clauses.{argument_by}
 use Rattle.d_types.specs.Expressions.{Has}
-use Rattle.replay_core.specs.Steps.Effects.{NotesEffect}
 use Rattle.replay_core.specs.Evaluation.{variables_in}
 use Rattle.replay_core.specs.Forms.{by_expressions}
 use Rattle.replay_core.specs.Threads.{tables_seen}
@@ -22,11 +21,10 @@ returns-clause-effect c =
     let between = variables_in tables_seen c.evaluate_key.new.state in
     let after = variables_in tables_seen c.evaluate_argument.new.state in
     let fits : FitsSigned w64 c.in_ok-number.number = search rules in
-    let noted = subst (λ y. NotesEffect f.number (ef.Adds c.args.index c.in_ok-key.key y) (piece_seen c.args.piece.now) (piece_seen c.note_contribution.new.self))
-    (to_z-of_z w64 c.in_ok-number.number fits) (c.in_ok-note_contribution.ensures.notes f.number) in
     let given : argument_by by c.args.argument.now between ≡ Has c.in_ok-number.number after =
     subst (λ s. argument_by (by_expressions s.now) c.args.argument.now between ≡ Has c.in_ok-number.number after) c.in_ok-key.ensures.0.firing c.in_ok-number.ensures.1 in (
       stays_then tables_seen c.args.state.now c.evaluate_key.new.state c.evaluate_argument.new.state c.in_ok-key.ensures.0 c.in_ok-number.ensures.0,
       adds f.number c.args.index (by.key c.args.keys.now vars) (argument_by by c.args.argument.now) c.in_ok-key.key c.in_ok-number.number
-          (piece_seen c.args.piece.now) (piece_seen c.note_contribution.new.self) between after c.in_ok-key.ensures.1 given noted,
+          (piece_seen c.args.piece.now) c.add.new.self between after c.in_ok-key.ensures.1 given c.in_ok-add.ensures.functions
+          (λ before stood. subst (λ y. StandsFor c.add.new.self (before ++ contribution c.args.index c.in_ok-key.key y ∷ [])) (to_z-of_z w64 c.in_ok-number.number fits) (c.in_ok-add.ensures.ok before stood)),
     )

@@ -5,7 +5,6 @@ use Rattle.std.proofs.lemmas.List.{length-map}
 use Rattle.std.proofs.lemmas.List.Elements.{Contains-push}
 use Rattle.std.proofs.lemmas.Result.{IfOk-weaker}
 use Rattle.d_types.specs.Held.{AreTypedOwn, slots_of}
-use Rattle.d_types.proofs.FiringValues.{firing_is}
 use Rattle.replay_core.specs.Meaning.{at_start, firing_result, threads_after}
 use Rattle.replay_core.specs.Patterns.{probe_of}
 use Rattle.replay_core.specs.Seen.{piece_seen}
@@ -48,7 +47,7 @@ returns-clause-run g c =
     let f = c.args.firing.now in
     let threads = threads_of (g.C.Store.Store.seen c.args.self.now.store) in
     let start = at_start (threads f.thread) in
-    let fit = firing_is f c.requires.ranges in
+    let fit = c.built_ins_are_of_their_types.ensures in
     IfOk-weaker c.run_on_thread.result _ _ (λ exits told m runs selected typed.
     let run = told (slots_of m) m.clauses runs.clauses_mean fit (typed f.thread) in
     let made = all_made f m.clauses c.args.indices.now start in

@@ -25,7 +25,7 @@ fire-requires-clause-selected g c =
     let indices = c.args.indices.now in
     let list = get_or c.lists-lists.result i c.index-lists-at.result in
     let listed = listed_at c.lists-lists.result s.selections.now indices i c.index-lists-at.result (omega arith) c.lists-lists.ensures in
-    (some.0, c.loop-at.invariant.script some.0 some.1 some.2, selected_is some.0 s.trace.now s.selections.now some.2 (slice_index indices i) c.read_at-firing.result list c.read_at-firing.ensures.firing listed)
+    (some.0, c.loop-at.invariant.script some.0 some.1 some.2, selected_is some.0 s.trace.now s.selections.now some.2 (slice_index indices i) c.read_at-firing.result list c.read_at-firing.ensures listed)
 
 pub fire-requires-clause-clauses : goal.fire-requires-clause-clauses
 fire-requires-clause-clauses g c =
@@ -46,7 +46,7 @@ loop-at-preserved-then-not-has g c =
     let inv = c.loop-at.invariant in
     let counted = filter (is_in c.args.span) (firings_at run (take i indices)) in
     let item : get_or indices i index ≡ index = get_or_default indices i index 0 (omega arith) in
-    let more = kept_more c.args.span run indices i index f (omega arith) item c.read_at-firing.ensures.firing in
+    let more = kept_more c.args.span run indices i index f (omega arith) item c.read_at-firing.ensures in
     let out : is_in c.args.span f ≡ false = search rules in
     record {
       script = inv.script;
@@ -69,12 +69,12 @@ loop-at-preserved g c =
     let listed = listed_at c.lists-lists.result s.selections.now indices i c.index-lists-at.result (omega arith) c.lists-lists.ensures in
     let counted = filter (is_in c.args.span) (firings_at run (take i indices)) in
     let item : get_or indices i index ≡ index = get_or_default indices i index 0 (omega arith) in
-    let more = kept_more c.args.span run indices i index f (omega arith) item c.read_at-firing.ensures.firing in
+    let more = kept_more c.args.span run indices i index f (omega arith) item c.read_at-firing.ensures in
     let within : is_in c.args.span f ≡ true = search rules in
     let old = g.E.Engine.seen c.loop-at.lane in
     let new = g.E.Engine.seen c.fire.new.lane in
     let (m₀, runs₀, are₀) = c.requires.script in
-    let chosen : (m : ScriptMeant) → AreFor s.trace.now s.selections.now m → _ = λ m are. selected_is m s.trace.now s.selections.now are index f list c.read_at-firing.ensures.firing listed in
+    let chosen : (m : ScriptMeant) → AreFor s.trace.now s.selections.now m → _ = λ m are. selected_is m s.trace.now s.selections.now are index f list c.read_at-firing.ensures listed in
     record {
       script = λ m runs are. c.fire.ensures.script m (inv.script m runs are) (chosen m are);
       few = let step = c.in_ok-fire.ensures.step m₀ (inv.script m₀ runs₀ are₀) (chosen m₀ are₀) in
@@ -96,9 +96,6 @@ returns-clause-run g c = λ m before runs are is.
 
 pub returns-clause-script : goal.returns-clause-script
 returns-clause-script g c = c.loop-at.invariant.script
-
-pub fire-requires-clause-ranges : goal.fire-requires-clause-ranges
-fire-requires-clause-ranges g c = c.read_at-firing.ensures.ranges
 
 pub read_at-firing-requires-clause-row : goal.read_at-firing-requires-clause-row
 read_at-firing-requires-clause-row g c =

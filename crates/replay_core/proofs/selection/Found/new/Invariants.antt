@@ -3,11 +3,11 @@ use Rattle.d_parser.specs.declared.tree.Description.{Description}
 use Rattle.firings.specs.Stored.{AreIndices, Extends}
 use Rattle.replay_core.specs.Steps.Described.{IsTableOf}
 use Rattle.replay_core.specs.Indices.{indices_for}
-use Rattle.replay_core.proofs.selection.lists_for.Given as goal
+use Rattle.replay_core.proofs.selection.Found.new.Given as goal
 
 abbrev pub invariant-loop-probe : goal.invariant-loop-probe
 invariant-loop-probe l = record {
   end : l.probe-end ≡ length l.firings.probes;
-  grows : Extends l.fn.lists l.lists;
-  indices : (ds : List (List Description)) → IsTableOf l.table ds → AreIndices l.lists l.indices.items (take l.probe (map (λ p. indices_for p 0 ds) l.firings.probes));
+  grows : Extends l.initial.lists l.lists;
+  indices : (ds : List (List Description)) → IsTableOf l.table ds → AreIndices l.lists l.by_probe.items (take l.probe (map (λ p. indices_for p 0 ds) l.firings.probes));
 }

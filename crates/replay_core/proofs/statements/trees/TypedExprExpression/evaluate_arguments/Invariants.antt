@@ -5,7 +5,7 @@ use Rattle.d_types.specs.Clauses.{values_of}
 use Rattle.replay_core.specs.Evaluation.{Stays, variables_in}
 use Rattle.replay_core.specs.Forms.{expression_type}
 use Rattle.replay_core.specs.Threads.{tables_seen}
-use Rattle.replay_core.proofs.statements.trees.evaluate_arguments.Given as goal
+use Rattle.replay_core.proofs.statements.trees.TypedExprExpression.evaluate_arguments.Given as goal
 
 abbrev pub invariant-loop-argument : goal.invariant-loop-argument
 invariant-loop-argument l =
