@@ -11,7 +11,7 @@ use Rattle.firings.specs.declared.unit.Probe.{Probe}
 use Rattle.firings.specs.Firings.{thread_of}
 use Rattle.firings.specs.Probing.{probe_of}
 use Rattle.firings.specs.Stored.{AreIndices, IsRowIn, firing_in, no_owner, no_probe}
-use Rattle.firings.proofs.Placed.{placed}
+use Rattle.firings.proofs.{Placed.placed, Texts.some_is}
 
 -- there is a probe for each row
 pub rows_placed : (o : List Owner) (p : List Probe) (a : List ℤ) (rs : List Row) → All (IsRowIn o p a) rs → All (λ r. r.probe < length p) rs
@@ -47,7 +47,4 @@ field_below f rs n i r all is = subst (λ (l : Row). f l < n) (get_or_from_slice
 -- what is at the index of one of these
 pub at_index : {X : Type 0} (all : List X) (ps : List ℕ) (xs : List X) (i p : ℕ) (x : X) → AreIndices all ps xs → i < length xs → slice_get ps i ≡ Some p → slice_get all p ≡ Some x
     → get_or xs i x ≡ x
-at_index {X} all ps xs i p x are lt at is = some_is (get_or xs i x) x (sym (placed all ps xs i x are lt) ∙ ap (slice_get all) (get_or_from_slice_get ps i p 0 at) ∙ is)
-  where
-    some_is : (a b : X) → Some a ≡ Some b → a ≡ b
-    some_is a b e = cc
+at_index all ps xs i p x are lt at is = some_is (get_or xs i x) x (sym (placed all ps xs i x are lt) ∙ ap (slice_get all) (get_or_from_slice_get ps i p 0 at) ∙ is)

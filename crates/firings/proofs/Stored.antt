@@ -1,11 +1,11 @@
 -- Firings as a trace stores them.
 use Rattle.std.proofs.Common.{◌≡◌, ◌<◌, ◌≤◌, ◌+◌, ℕ, ℤ, pos, zero, suc, List, [], ◌∷◌, ◌++◌, length}
 use Rattle.std.proofs.Common.{get_or, take, drop, map, All, Some, refl, sym, ap, ◌∙◌, arith}
-use Rattle.std.proofs.Common.{length-append, append_assoc}
+use Rattle.std.proofs.Common.{length-append, length-drop, append_assoc}
 use Rattle.std.specs.Prelude.{slice_get}
 use Rattle.std.proofs.Math.ListN.{get_or-append}
-use Rattle.std.proofs.Math.Seq.{drop-append_seam}
-use Rattle.std.proofs.lemmas.List.{map-append, drop-append-le, append-nil}
+use Rattle.std.proofs.Math.Seq.{drop-append_seam, take-length}
+use Rattle.std.proofs.lemmas.List.{map-append, drop-append-le, take-append-le, append-nil}
 use Rattle.std.proofs.lemmas.List.Elements.{All-head, All-tail}
 use Rattle.std.proofs.lemmas.Option.{slice_get-map, slice_get_within, get_or_from_slice_get}
 use Rattle.firings.specs.declared.firing.Firing.{Firing}
@@ -30,18 +30,8 @@ within_more xs ys i (a, e) le =
 pub found_more : {X : Type 0} (xs ys : List X) (i : ℕ) (d : X) → Extends xs ys → i < length xs → get_or ys i d ≡ get_or xs i d
 found_more xs ys i d (a, e) lt = rw e (get_or-append xs a d i lt)
 
-take-append-le : {X : Type 0} (n : ℕ) (xs ys : List X) → n ≤ length xs → take n (xs ++ ys) ≡ take n xs
-take-append-le zero xs ys le = refl
-take-append-le (suc n) [] ys le = absurd (omega arith)
-take-append-le (suc n) (x ∷ xs) ys le = ap (λ (l : List _). x ∷ l) (take-append-le n xs ys (omega arith))
-
-length-drop-from : {X : Type 0} (n m : ℕ) (xs : List X) → n + m ≤ length xs → m ≤ length (drop n xs)
-length-drop-from zero m xs le = omega arith
-length-drop-from (suc n) m [] le = absurd (omega arith)
-length-drop-from (suc n) m (x ∷ xs) le = length-drop-from n m xs (omega arith)
-
 pub part_more : {X : Type 0} (xs ys : List X) (n m : ℕ) → Extends xs ys → n + m ≤ length xs → take m (drop n ys) ≡ take m (drop n xs)
-part_more xs ys n m (a, e) le = rw (e, drop-append-le n xs a (omega arith)) (take-append-le m (drop n xs) a (length-drop-from n m xs le))
+part_more xs ys n m (a, e) le = rw (e, drop-append-le n xs a (omega arith)) (take-append-le m (drop n xs) a (omega (arith, length-drop n xs, le)))
 
 -- what is kept after them changes no row
 pub row_more : (o q : List Owner) (p u : List Probe) (a b : List ℤ) (r : Row) → Extends o q → Extends p u → Extends a b → IsRowIn o p a r → IsRowIn q u b r
@@ -79,11 +69,7 @@ stored o p a rs r f old is one = map-append (firing_in o p a) rs (r ∷ []) ∙ 
 
 -- the arguments of one firing, after those of the others
 pub part_kept : (a b xs : List ℤ) → b ≡ a ++ xs → take (length xs) (drop (length a) b) ≡ xs
-part_kept a b xs is = rw (is, drop-append_seam a xs) (take-all xs)
-  where
-    take-all : (xs : List ℤ) → take (length xs) xs ≡ xs
-    take-all [] = refl
-    take-all (x ∷ xs) = ap (λ (l : List ℤ). x ∷ l) (take-all xs)
+part_kept a b xs is = rw (is, drop-append_seam a xs) (take-length xs)
 
 -- lists of ten with the same elements
 pub ten_same : (xs ys : List ℤ) → length ys ≡ 10 → ((i : ℕ) → get_or xs i (pos 0) ≡ get_or ys i (pos 0)) → ten xs ≡ ys
