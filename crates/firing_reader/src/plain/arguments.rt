@@ -3,10 +3,10 @@
 ghost use Rattle.std.specs.Prelude.{◌≡◌, ◌≤◌, ◌∷◌, ◌++◌, [], ℕ, ℤ, List, true, Some, IfSome};
 ghost use Rattle.std.specs.Prelude.{MatchOption, length, take};
 ghost use Rattle.firing_reader.specs.Steps.{Arguments.EndsAlike, Plain.Closes};
-ghost use Rattle.firing_reader.specs.Steps.{Plain.ReadsArguments};
+ghost use Rattle.firing_reader.specs.Steps.{Plain.ReadsArguments, Stored.Gains};
 ghost use Rattle.firings.specs.{Arguments.ten};
 ghost use Rattle.firing_reader.specs.{Column.signed_of, Plain.BeginsAtEnd, Plain.Passes};
-ghost use Rattle.firings.specs.Stored.{Extends, IsGivenIn, given_in};
+ghost use Rattle.firings.specs.Stored.{IsGivenIn, given_in};
 
 use super::field::{last_argument, next_argument};
 use super::front::{begins_at_end, rest_after};
@@ -86,10 +86,8 @@ fn keep_last<'a>(all: &mut Vec<i64>, bytes: &'a [u8]) -> Option<&'a [u8]>
 /// all empty. It returns where they are, and what comes from the end of the row on.
 #[inline(always)]
 pub(crate) fn read_arguments<'a>(all: &mut Vec<i64>, bytes: &'a [u8]) -> Option<(Given, &'a [u8])>
-    ensures grows { Extends all.old.items all.new.items }
-    ensures inside { IfSome result (λ p. IsGivenIn all.new.items p.0) }
-    ensures args { IfSome result
-        (λ p. ReadsArguments bytes.now p.1.now (ten (given_in all.new.items p.0))) }
+    ensures { Gains all.old.items all.new.items result (λ p. IsGivenIn all.new.items p.0
+        × ReadsArguments bytes.now p.1.now (ten (given_in all.new.items p.0))) }
 {
     let first = all.len();
     let mut rest = bytes;

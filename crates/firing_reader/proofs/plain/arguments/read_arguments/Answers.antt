@@ -5,8 +5,8 @@ use Rattle.firing_reader.proofs.plain.arguments.read_arguments.Goals as goal
 pub loop-n-init : goal.loop-n-init
 loop-n-init c = record { read = none_so_far c.args.bytes.now c.args.all.now.items; first = omega (arith, c.len-first.ensures, c.args.all.now.ok.0) }
 
-pub returns-in-Some-clause-args : goal.returns-in-Some-clause-args
-returns-in-Some-clause-args c =
+pub returns-in-Some : goal.returns-in-Some
+returns-in-Some c =
     let g = c.in_ok-given.given in
     let e = c.in_ok-given.ensures in
     let (field, is, closes) = c.in-Some.ensures in
@@ -21,8 +21,8 @@ loop-n-preserved c =
       first = c.loop-n.invariant.first;
     }
 
-pub returns-clause-args : goal.returns-clause-args
-returns-clause-args c =
+pub returns : goal.returns
+returns c =
     let (field, value, closes, read, pushed) = c.in_ok-end.ensures in
     let g = c.in_ok-given-2.given in
     let e = c.in_ok-given-2.ensures in
