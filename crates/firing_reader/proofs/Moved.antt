@@ -17,7 +17,7 @@ use Rattle.firing_reader.specs.Steps.Stored.{moved_row}
 use Rattle.firings.proofs.Placed.{as_many, placed}
 use Rattle.firings.proofs.Stored.{named_at, named_in, rows_more, seen_all}
 
-first_moved : (g : Given) (shift : ℕ) → first_of (moved_given shift g) ≡ first_of g + shift
+first_moved : (g : Given) (shift : ℕ) → first_of (moved_given shift g) ≡ shift + first_of g
 first_moved g shift = omega arith
 
 count_moved : (g : Given) (shift : ℕ) → count_of (moved_given shift g) ≡ count_of g
@@ -35,11 +35,6 @@ all_movable q os qs u ps us a o rs to tp few all = λ k d within. one (get_or rs
           probe = rw (as_many u us ps tp) h.probe;
           given = omega (arith, size, few, h.given);
         }
-
-drop-append-from : (a o : List ℤ) (n : ℕ) → drop (n + length a) (a ++ o) ≡ drop n o
-drop-append-from a o n =
-    let swap : n + length a ≡ length a + n = omega arith in
-    rw swap (drop-append-add a o n)
 
 moved_in : (q os : List Owner) (qs : List ℕ) (u ps : List Probe) (us : List ℕ) (a o : List ℤ) (r : Row) → AreIndices q qs os → AreIndices u us ps → IsRowIn os ps o r
     → IsRowIn q u (a ++ o) (moved_row qs us (length a) r)
@@ -59,7 +54,7 @@ moved_same q os qs u ps us a o r to tp h =
       named_at u _ _ no_probe (placed u us ps r.probe no_probe tp h.probe),
       first_moved r.given (length a),
       count_moved r.given (length a),
-      drop-append-from a o (first_of r.given),
+      drop-append-add a o (first_of r.given),
     ) refl
 
 all_moved_in : (q os : List Owner) (qs : List ℕ) (u ps : List Probe) (us : List ℕ) (a o : List ℤ) (rs : List Row) → AreIndices q qs os → AreIndices u us ps

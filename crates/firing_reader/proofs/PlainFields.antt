@@ -5,11 +5,11 @@ use Rattle.std.proofs.Common.{refl, ap, ◌∙◌, arith, All, Bor}
 use Rattle.std.specs.Prelude.{IfSome}
 use Rattle.std.specs.Int.{IsInRange}
 use Rattle.std.specs.Str.Parse.{digits_value, AllDigits}
+use Rattle.std.proofs.lemmas.Bool.{ne_eqb}
 use Rattle.std.proofs.lemmas.Str.Parse.{digit_at, digits_value_short}
 use Rattle.std.proofs.lemmas.Str.{digit_value_digit}
 use Rattle.std.proofs.lemmas.List.Elements.{All-cons, All-nil, All-head, All-tail}
 use Rattle.firing_reader.proofs.Numerals.{all_read}
-use Rattle.firing_reader.proofs.PlainRows.{is_not}
 use Rattle.firing_reader.specs.Column.{number_from, signed_of}
 use Rattle.firing_reader.specs.Steps.Plain.{BeginsWith, IsWordByte, JoinsField}
 
@@ -27,7 +27,7 @@ pub positive_read : (xs : List ℕ) (n : ℕ) → AllDigits 10 xs → n ≡ digi
 positive_read [] n all value fits = rw value refl
 positive_read (b ∷ rest) n all value fits =
     let d = digit_at (b ∷ rest) 0 all (omega arith) in
-    rw (is_not b 45 (λ e. absurd (omega (arith, d.0, d.1, e))), all_read (b ∷ rest) n 0 (2 ^ 63 - 1) (omega arith) all value (omega arith) fits) refl
+    rw (ne_eqb b 45 (λ e. absurd (omega (arith, d.0, d.1, e))), all_read (b ∷ rest) n 0 (2 ^ 63 - 1) (omega arith) all value (omega arith) fits) refl
 
 -- digits that 64 bits hold
 pub digits_fit : (xs : List ℕ) → AllDigits 10 xs → length xs ≤ 19 → digits_value 10 xs < 10 ^ 19

@@ -1,9 +1,9 @@
 -- What csv reads of bytes that begin with a plain field.
-use Rattle.std.proofs.Common.{◌≡◌, ◌≢◌, ◌<◌, ◌≤◌, ◌+◌, ◌-◌, ℕ, suc, false, List, [], ◌∷◌, ◌++◌, length}
+use Rattle.std.proofs.Common.{◌≡◌, ◌<◌, ◌≤◌, ◌+◌, ◌-◌, ℕ, suc, false, List, [], ◌∷◌, ◌++◌, length}
 use Rattle.std.proofs.Common.{Some, Ok, Err, refl, sym, ap, ◌∙◌, append_assoc, arith, add-one, inl}
 use Rattle.std.proofs.Common.{inr, All, drop, slice_index_or, take, take_all}
 use Rattle.std.specs.Prelude.{◌==◌}
-use Rattle.std.proofs.lemmas.Bool.Decides.{eqb_tells}
+use Rattle.std.proofs.lemmas.Bool.{ne_eqb}
 use Rattle.std.proofs.lemmas.List.Elements.{All-cons, All-head, All-nil, All-tail}
 use Rattle.std.proofs.lemmas.List.{append-nil}
 use Rattle.csv.specs.Machine.{next_record}
@@ -24,12 +24,6 @@ use Rattle.firing_reader.proofs.Left.{ends_bytes, enough, left_more, shorter}
 use Rattle.firing_reader.proofs.RowEnds.{left_return}
 use Rattle.firing_reader.proofs.Rows.{after_err, after_none, after_ok, one_row, rows_first}
 
-pub is_not : (b c : ℕ) → b ≢ c → (b == c) ≡ false
-is_not b c ne = elim (eqb_tells b c) [
-  | inl same ↦ absurd (ne same.1)
-  | inr other ↦ other.0
-]
-
 -- the bytes of a field
 in_field : (fields : List (List ℕ)) (so_far x rest : List ℕ) → All JoinsField x
     → next_record default_config st.InField fields so_far (x ++ rest) ≡ next_record default_config st.InField fields (so_far ++ x) rest
@@ -37,14 +31,14 @@ unfolding next_record
 in_field fields so_far [] rest h = rw (append-nil so_far) refl
 in_field fields so_far (b ∷ x) rest h =
     let joins = All-head JoinsField b x h in
-    rw (is_not b 44 joins.0, is_not b 13 joins.2, is_not b 10 joins.3) (in_field fields (so_far ++ (b ∷ [])) x rest (All-tail JoinsField b x h)
+    rw (ne_eqb b 44 joins.0, ne_eqb b 13 joins.2, ne_eqb b 10 joins.3) (in_field fields (so_far ++ (b ∷ [])) x rest (All-tail JoinsField b x h)
     ∙ ap (λ (f : List ℕ). next_record default_config st.InField fields f rest) (append_assoc so_far (b ∷ []) x))
 
 -- a field from its start, up to a byte that is no quote
 from_start : (fields : List (List ℕ)) (x : List ℕ) (c : ℕ) (rest : List ℕ) → (c == 34) ≡ false → All JoinsField x
     → next_record default_config st.StartField fields [] (x ++ (c ∷ rest)) ≡ next_record default_config st.InField fields x (c ∷ rest)
 from_start fields [] c rest n h = start-same fields [] c rest n
-from_start fields (b ∷ x) c rest n h = start-same fields [] b (x ++ (c ∷ rest)) (is_not b 34 (All-head JoinsField b x h).1) ∙ in_field fields [] (b ∷ x) (c ∷ rest) h
+from_start fields (b ∷ x) c rest n h = start-same fields [] b (x ++ (c ∷ rest)) (ne_eqb b 34 (All-head JoinsField b x h).1) ∙ in_field fields [] (b ∷ x) (c ∷ rest) h
 
 pub passes_one : (bytes field rest : List ℕ) → BeginsWith bytes field (44 ∷ rest) → Passes bytes (field ∷ []) rest
 unfolding next_record
@@ -105,7 +99,7 @@ one_end (b ∷ rest) some is_end = (b ∷ [], ap (λ (l : List ℕ). b ∷ l) (s
 pub row_read : (bytes ends line rest : List ℕ) (fields : List (List ℕ)) (first : ℕ) (more : List ℕ) → bytes ≡ ends ++ line → All IsEnd ends → line ≡ first ∷ more → JoinsField first
     → (c : Closes line fields rest) → (tail : List ℕ) → next_record default_config st.StartRecord [] [] (bytes ++ tail) ≡ Some (fields, state_after c.end, c.after ++ tail)
 row_read bytes ends line rest fields first more is all starts joins c tail =
-    let own : next_record default_config st.StartRecord [] [] (line ++ tail) ≡ next_record default_config st.StartField [] [] (line ++ tail) = rw starts (record-same [] [] first (more ++ tail) (is_not first 13 joins.2) (is_not first 10 joins.3)) in
+    let own : next_record default_config st.StartRecord [] [] (line ++ tail) ≡ next_record default_config st.StartField [] [] (line ++ tail) = rw starts (record-same [] [] first (more ++ tail) (ne_eqb first 13 joins.2) (ne_eqb first 10 joins.3)) in
     rw (is, append_assoc ends line tail) (ends_skipped ends (line ++ tail) all ∙ own ∙ c.read [] tail)
 
 -- the end of a row before a record is nothing
