@@ -138,28 +138,13 @@ impl<E: PlainEntry> UnitTable<E> {
     fn find(&self, key: &[u8], plain: bool, tag: u32) -> Option<u32>
         ensures { IfSome result (IsUnitOf E.reads self.now key.now plain) }
     {
-        let slot = self.slots.near(tag, 0);
-        if slot.is_of(tag) && self.is_at(slot.index, key, plain) {
-            return Some(slot.index);
-        }
-        if slot.is_empty() {
-            return None;
-        }
-        self.find_near(key, plain, tag)
-    }
-
-    // The index of the unit of these bytes and this tag, in the slots after the first.
-    #[inline(never)]
-    fn find_near(&self, key: &[u8], plain: bool, tag: u32) -> Option<u32>
-        ensures { IfSome result (IsUnitOf E.reads self.now key.now plain) }
-    {
-        for n in 1..NEAR {
+        for n in 0..NEAR {
             let slot = self.slots.near(tag, n);
-            if slot.is_empty() {
-                return None;
-            }
             if slot.is_of(tag) && self.is_at(slot.index, key, plain) {
                 return Some(slot.index);
+            }
+            if slot.is_empty() {
+                return None;
             }
         }
         None

@@ -9,12 +9,13 @@ ghost use Rattle.firings.specs.Units.{owner_in, probe_in};
 use super::arguments::read_arguments;
 use super::field::{int, whole};
 use super::front::{after_ends, starts_with_digit};
-use super::unit::{end_of_four, end_of_three};
+use super::unit::end_of;
 use crate::unit_table::UnitTable;
 use firings::{OwnerEntry, ProbeEntry, Row};
 
 // The row after the end of the one before, and the bytes from its own end on. Its number has to be
-// above `last`. Its owner and its probe are added if they aren't there.
+// above `last`. Its owner and its probe are added if they aren't there. They are looked for one
+// right after the other, so that the processor waits for both at once.
 #[inline(always)]
 pub(crate) fn row<'a>(
     owners: &mut UnitTable<OwnerEntry>,
@@ -34,11 +35,11 @@ pub(crate) fn row<'a>(
 {
     let (number, rest) = number_above(bytes, last)?;
     let (cpu, rest) = int(rest, 0)?;
-    let (key, rest) = rest.split_at(end_of_three(rest));
-    let owner = owners.read(key)?;
+    let (owner_key, rest) = rest.split_at(end_of(rest, 3));
     let (time, rest) = whole(rest, 0, u64::MAX)?;
-    let (key, rest) = rest.split_at(end_of_four(rest));
-    let probe = probes.read(key)?;
+    let (probe_key, rest) = rest.split_at(end_of(rest, 4));
+    let owner = owners.read(owner_key)?;
+    let probe = probes.read(probe_key)?;
     let (given, rest) = read_arguments(args, rest)?;
     let row = Row {
         number,

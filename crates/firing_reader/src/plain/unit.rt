@@ -6,48 +6,27 @@ use std::simd::prelude::*;
 
 const COMMA: u8 = b',';
 
-// Without the lowest bit.
-fn without_lowest(marks: u64) -> u64 {
-    marks & marks.wrapping_sub(1)
-}
-
-/// How many bytes there are up to and including the third comma; 0 if there are fewer commas.
+/// How many bytes there are up to the last of this many commas, and with it; 0 if there are fewer.
 #[inline(always)]
-pub(crate) fn end_of_three(bytes: &[u8]) -> usize
-    ensures { result ≤ length bytes.now }
-{
-    if bytes.len() >= 32 {
-        let marks = u8x32::from_slice(&bytes[..32])
-            .simd_eq(u8x32::splat(COMMA))
-            .to_bitmask();
-        let third = without_lowest(without_lowest(marks));
-        let end = third.trailing_zeros() as usize + 1;
-        if end <= 32 {
-            return end;
-        }
-    }
-    end_after(bytes, 3).min(bytes.len())
-}
-
-/// How many bytes there are up to and including the fourth comma; 0 if there are fewer commas.
-#[inline(always)]
-pub(crate) fn end_of_four(bytes: &[u8]) -> usize
+pub(crate) fn end_of(bytes: &[u8], commas: u32) -> usize
     ensures { result ≤ length bytes.now }
 {
     if bytes.len() >= 64 {
-        let marks = u8x64::from_slice(&bytes[..64])
+        let mut marks = u8x64::from_slice(&bytes[..64])
             .simd_eq(u8x64::splat(COMMA))
             .to_bitmask();
-        let fourth = without_lowest(without_lowest(without_lowest(marks)));
-        let end = fourth.trailing_zeros() as usize + 1;
+        for _ in 1..commas {
+            marks &= marks.wrapping_sub(1);
+        }
+        let end = marks.trailing_zeros() as usize + 1;
         if end <= 64 {
             return end;
         }
     }
-    end_after(bytes, 4).min(bytes.len())
+    end_after(bytes, commas).min(bytes.len())
 }
 
-// How many bytes there are up to and including this comma, looked for byte by byte.
+// How many bytes there are up to the last of these commas, looked for byte by byte.
 #[cold]
 #[inline(never)]
 fn end_after(bytes: &[u8], commas: u32) -> usize {

@@ -17,10 +17,10 @@ returns c =
     record {
       owners = c.read.ensures.0;
       probes = c.read-2.ensures.0;
-      args = c.read_arguments.ensures.grows;
-      inside = rw (to_z-of_z w32 c.in_ok-cpu.cpu (search rules)) (row_in (map owner_in c.read.new.self) (map probe_in c.read-2.new.self) c.read_arguments.new.all.items r _ _ at_o at_p c.in_ok-given.ensures.inside);
+      args = c.read_arguments.ensures.0;
+      inside = rw (to_z-of_z w32 c.in_ok-cpu.cpu (search rules)) (row_in (map owner_in c.read.new.self) (map probe_in c.read-2.new.self) c.read_arguments.new.all.items r _ _ at_o at_p c.in_ok-given.ensures.1.0);
       row = rw (to_z-of_z w32 c.in_ok-cpu.cpu (search rules)) (row_parts c.args.bytes.now c.in_ok-number.rest.now c.in_ok-cpu.rest.now c.split_at.result.1.now c.in_ok-time.rest.now c.split_at-2.result.1.now c.in_ok-given.rest.now
           (map owner_in c.read.new.self) (map probe_in c.read-2.new.self) c.read_arguments.new.all.items r _ _ c.in_ok-number.ensures.begins c.in_ok-cpu.ensures
-          at_o (owner_read _ _ _ _ (reads refl) c.split_at.ensures.by_index.0) c.in_ok-time.ensures.value at_p (probe_read _ _ _ _ (names refl) c.split_at-2.ensures.by_index.0) c.in_ok-given.ensures.args);
+          at_o (owner_read _ _ _ _ (reads refl) c.split_at.ensures.by_index.0) c.in_ok-time.ensures.value at_p (probe_read _ _ _ _ (names refl) c.split_at-2.ensures.by_index.0) c.in_ok-given.ensures.1.1);
       rises = c.in_ok-number.ensures.rises;
     }
