@@ -1,6 +1,6 @@
 -- Rows that another store takes over.
 use Rattle.std.proofs.Common.{◌≡◌, ◌<◌, ◌+◌, ◌^◌, ℕ, ℤ, List, [], ◌∷◌, ◌++◌, length}
-use Rattle.std.proofs.Common.{get_or, drop, map, All, Some, refl, arith}
+use Rattle.std.proofs.Common.{get_or, map, All, Some, refl, arith}
 use Rattle.std.proofs.Common.{length-append}
 use Rattle.std.specs.Prelude.{IfSome, MatchOption, None, Option}
 use Rattle.std.proofs.Math.Seq.{drop-append-add}
