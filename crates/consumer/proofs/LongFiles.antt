@@ -16,7 +16,7 @@ use Rattle.consumer.specs.declared.plan.Replayed.{Replayed}
 use Rattle.consumer.specs.declared.refusal.Refusal.{Refusal}
 use Rattle.consumer.specs.declared.refusal.Refusal.TheVariants.{Lex, Parse, Typing, Trace, Group}
 use Rattle.consumer.specs.declared.refusal.Refusal.TheVariants.{Memory}
-use Rattle.consumer.specs.Consuming.{HoldsOfInput, WritesAnswer, WritesOver}
+use Rattle.consumer.specs.Consuming.{HoldsOfInput, WritesAnswer}
 use Rattle.consumer.specs.Replaying.{IsRefusalUnder, IsReplay}
 use Rattle.consumer.specs.{Steps.Judging.IsJudged, Vocabulary.TypedScript}
 use Rattle.consumer.specs.Scripts.{IsParseFault}
@@ -73,10 +73,7 @@ module _ (shows : LayoutMeant) (script trace : List ℕ) (plan : Plan) (old new 
       let all_long : 65536 < length all = omega arith in
       record { answer = w.answer; is = replayed_alike script all long all_long shows trace plan w.answer w.is; out = w.out }
 
-pub holds_of_file : (shows : LayoutMeant) (script : List ℕ) (plan : Plan) (old new : SinkSeen) (result : Result Replayed ConsumeFault) (holds remaining : Option (List ℕ))
-    → IfSome holds (λ all. IsScriptIn all script) → WritesOver shows script remaining plan old new result
-    → HoldsOfInput holds (λ s. WritesOver shows s remaining plan old new result)
-holds_of_file shows script plan old new result None remaining is h = record { input = script; read = search rules; holds = h }
-holds_of_file shows script plan old new result (Some all) remaining is h =
-    let written = written_for shows script h.input plan old new result all is h.holds in
-    record { input = all; read = refl; holds = record { input = h.input; read = h.read; holds = written } }
+  pub holds_of_file : (holds : Option (List ℕ)) → IfSome holds (λ all. IsScriptIn all script) → WritesAnswer shows script trace plan old new result
+      → HoldsOfInput holds (λ s. WritesAnswer shows s trace plan old new result)
+  holds_of_file None is w = record { input = script; read = search rules; holds = w }
+  holds_of_file (Some all) is w = record { input = all; read = refl; holds = written_for all is w }

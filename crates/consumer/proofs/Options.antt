@@ -1,5 +1,5 @@
 -- What options say.
-use Rattle.std.proofs.Common.{◌≡◌, ◌∙◌, ◌≤◌, ◌<◌, ◌^◌, refl, sym, subst, ap, arith, false, ℕ, List}
+use Rattle.std.proofs.Common.{◌≡◌, ◌∙◌, ◌≤◌, ◌<◌, ◌^◌, refl, sym, subst, ap, arith, ℕ, List}
 use Rattle.std.proofs.Common.{Option, Some, None, Result, Ok, Err}
 use Rattle.std.specs.Prelude.{IfOk, IsSomeAnd, codes, option_and_then}
 use Rattle.std.specs.Str.Parse.{ExplainsUnsignedError, HasUnsignedDigitsIfOk, IsNumeral}
@@ -11,20 +11,21 @@ use Rattle.clap.specs.declared.builder.arg.Arg.{Arg}
 use Rattle.clap.specs.declared.builder.command.Command.{Command}
 use Rattle.clap.specs.declared.parser.matches.Found.{Found}
 use Rattle.clap.proofs.WalkLemmas.{first_value-rows, one_text-rows}
+use Rattle.consumer.specs.Steps.Words.{HasRule}
 use Rattle.consumer.specs.Words.{IsNumberIn, engine_called, engine_in, file_in}
 use Rattle.consumer.specs.declared.plan.EngineKind.{EngineKind}
 
 -- a command with one more option
-pub with_option : (old new : Command) (a : Arg) (app : App) (r : Rule) → AddsArg old a new → a.global ≡ false → rule_of a ≡ r
+pub with_option : (old new : Command) (a : Arg) (app : App) (r : Rule) → AddsArg old a new → HasRule r a
     → app_of old ≡ app → app_of new ≡ with_rule app r
-with_option old new a app r adds local rule before =
-    adds.shape local ∙ ap (λ x. with_rule x (rule_of a)) before ∙ ap (with_rule app) rule
+with_option old new a app r adds has before =
+    adds.shape has.1 ∙ ap (λ x. with_rule x (rule_of a)) before ∙ ap (with_rule app) has.0
 
 -- so long as memory is there
 pub ok_with_option : {E : Type 0} (old : Command) (r : Result Command E) (a : Arg) (app : App) (rule : Rule) → IfOk r (AddsArg old a)
-    → a.global ≡ false → rule_of a ≡ rule → app_of old ≡ app → IfOk r (λ c. app_of c ≡ with_rule app rule)
-ok_with_option old (Ok c) a app rule adds local same before = with_option old c a app rule adds local same before
-ok_with_option old (Err e) a app rule adds local same before = tt
+    → HasRule rule a → app_of old ≡ app → IfOk r (λ c. app_of c ≡ with_rule app rule)
+ok_with_option old (Ok c) a app rule adds has before = with_option old c a app rule adds has before
+ok_with_option old (Err e) a app rule adds has before = tt
 
 -- the text writes this number
 abbrev pub Writes : List ℕ → ℕ → Type 0

@@ -14,11 +14,11 @@ use Rattle.consumer.specs.declared.words.UsageFault.TheVariants.{Help, Usage}
 use Rattle.consumer.specs.declared.words.UsageFault.TheVariants as usage
 use Rattle.consumer.specs.Answer.{without_line}
 use Rattle.consumer.specs.Bundle.{Divides}
-use Rattle.consumer.specs.Consuming.{HoldsOfInput, WritesBundle, WritesOut, WritesOver}
+use Rattle.consumer.specs.Consuming.{HoldsOfInput, WritesAnswer, WritesBundle, WritesOut}
 use Rattle.consumer.specs.Plans.{IsMisgrouped}
 use Rattle.consumer.specs.Program.{Ends, EndsWithoutRun, IsBroken, IsRequest, IsRunOf}
 use Rattle.consumer.specs.Program.{StreamsSeen, WriteAlike, words_of, ran, without_run}
-use Rattle.consumer.specs.Refusals.{IsReported, status_at_end, status_of}
+use Rattle.consumer.specs.Refusals.{IsReported, status_of}
 use Rattle.consumer.specs.Replaying.{IsOfPlan, IsReplay}
 use Rattle.consumer.specs.Vocabulary.{ConsumeFault, Read, Refused, Write, Dealt, GroupFault, Plan}
 use Rattle.consumer.specs.Vocabulary.{Refusal, Lex, Parse, Typing, Trace, Group, Memory, Replayed}
@@ -76,25 +76,23 @@ module _ (shows : LayoutMeant) (script trace : List ℕ) (plan : Plan) (n : ℕ)
   misgrouped : (fault : GroupFault) → IsReplay shows script trace plan (Err (Group fault)) → ⊥
   misgrouped fault is = subst (λ groups. IsMisgrouped groups is.fault.1 fault) dealt is.fault.3
 
-  by_refusal : (e : Refusal) → IsReplay shows script trace plan (Err e) → new.output ≡ old.output → status ≡ status_of e
-      → IsReported (Err (Refused e)) old.errors new.errors → Came shows script trace old new status
-  by_refusal (Lex f) is same ends line = refused plan (Lex f) is (λ own. own) ends same
-  by_refusal (Parse f) is same ends line = refused plan (Parse f) is (λ own. own) ends same
-  by_refusal (Typing f) is same ends line = refused plan (Typing f) is (λ own. own) ends same
-  by_refusal (Trace f) is same ends line = refused plan (Trace f) is (λ own. own) ends same
-  by_refusal (Group f) is same ends line = absurd (misgrouped f is)
-  by_refusal Memory is same ends line = broken (record { fault = Refused Memory; is = refl; ends = ends; line = line })
+  by_refusal : (e : Refusal) → IsReplay shows script trace plan (Err e) → new.output ≡ old.output → IsReported (Err (Refused e)) old.errors new.errors status
+      → Came shows script trace old new status
+  by_refusal (Lex f) is same line = refused plan (Lex f) is (λ own. own) line.0 same
+  by_refusal (Parse f) is same line = refused plan (Parse f) is (λ own. own) line.0 same
+  by_refusal (Typing f) is same line = refused plan (Typing f) is (λ own. own) line.0 same
+  by_refusal (Trace f) is same line = refused plan (Trace f) is (λ own. own) line.0 same
+  by_refusal (Group f) is same line = absurd (misgrouped f is)
+  by_refusal Memory is same line = broken (record { fault = Refused Memory; is = refl; line = line })
 
   by_answer : (answer : Result Replayed Refusal) (result : Result Replayed ConsumeFault) → IsReplay shows script trace plan answer
-      → WritesOut answer old.output new.output result → status ≡ status_at_end result → IsReported result old.errors new.errors
-      → Came shows script trace old new status
-  by_answer (Ok r) (Ok given) is out ends line =
-      shown plan r is (ends ∙ ap (λ x. x.status) out.0) (sent_whole r.bytes.items old.output new.output out.1 out.2)
-  by_answer (Ok r) (Err Write) is out ends line = broken (record { fault = Write; is = refl; ends = ends; line = line })
-  by_answer (Ok r) (Err Read) is out ends line = absurd out
-  by_answer (Ok r) (Err (Refused e)) is out ends line = absurd out
-  by_answer (Err e) result is out ends line =
-      by_refusal e is out.0 (ends ∙ ap status_at_end out.1) (subst (λ r. IsReported r old.errors new.errors) out.1 line)
+      → WritesOut answer old.output new.output result → IsReported result old.errors new.errors status → Came shows script trace old new status
+  by_answer (Ok r) (Ok given) is out line =
+      shown plan r is (line.0 ∙ ap (λ x. x.status) out.0) (sent_whole r.bytes.items old.output new.output out.1 out.2)
+  by_answer (Ok r) (Err Write) is out line = broken (record { fault = Write; is = refl; line = line })
+  by_answer (Ok r) (Err Read) is out line = absurd out
+  by_answer (Ok r) (Err (Refused e)) is out line = absurd out
+  by_answer (Err e) result is out line = by_refusal e is out.0 (subst (λ r. IsReported r old.errors new.errors status) out.1 line)
 
 -- what two runs over one script and trace came to
 module _ (shows : LayoutMeant) (each : IsDeterministic shows) (script trace : List ℕ) (old new old' new' : StreamsSeen) (status status' : ℕ) where
@@ -151,12 +149,12 @@ known_input remaining bytes input known read =
 
 module _ (shows : LayoutMeant) (holds : List ℕ → Option (List ℕ)) (known : (name : List ℕ) → IsSome (holds name)) (input : List ℕ) (old new : StreamsSeen)
     (full : old.input.remaining ≡ Some input) (status : ℕ) where
-  by_file : (plan : Plan) (n : ℕ) → plan.groups ≡ Dealt n → (result : Result Replayed ConsumeFault) → status ≡ status_at_end result
-      → IsReported result old.errors new.errors → (given : Option (String Global))
-      → MatchOption given (WritesBundle shows old.input.remaining plan old.output new.output result)
-      (λ file. HoldsOfInput (holds (string_bytes file)) (λ script. WritesOver shows script old.input.remaining plan old.output new.output result))
+  by_file : (plan : Plan) (n : ℕ) → plan.groups ≡ Dealt n → (result : Result Replayed ConsumeFault)
+      → IsReported result old.errors new.errors status → (given : Option (String Global))
+      → HoldsOfInput old.input.remaining (λ bytes. MatchOption given (WritesBundle shows bytes plan old.output new.output result)
+      (λ file. HoldsOfInput (holds (string_bytes file)) (λ script. WritesAnswer shows script bytes plan old.output new.output result)))
       → (script trace : List ℕ) × IsSource (option_map string_bytes given) holds input script trace × Came shows script trace old new status
-  by_file plan n dealt result ends line None h =
+  by_file plan n dealt result line None h =
       let whole = known_input old.input.remaining input h.input full h.read in
       let script = h.holds.0 in
       let trace = h.holds.1 in
@@ -164,32 +162,32 @@ module _ (shows : LayoutMeant) (holds : List ℕ → Option (List ℕ)) (known :
         script,
         trace,
         subst (λ bundle. Divides bundle script trace) whole h.holds.2,
-        by_answer shows script trace plan n dealt old new status w.answer result w.is w.out ends line,
+        by_answer shows script trace plan n dealt old new status w.answer result w.is w.out line,
       )
-  by_file plan n dealt result ends line (Some file) h =
+  by_file plan n dealt result line (Some file) h =
       let bytes = content (holds (string_bytes file)) (known (string_bytes file)) in
-      let script = known_input (holds (string_bytes file)) bytes.0 h.input bytes.1 h.read in
-      let trace = known_input old.input.remaining input h.holds.input full h.holds.read in
+      let script = known_input (holds (string_bytes file)) bytes.0 h.holds.input bytes.1 h.holds.read in
+      let trace = known_input old.input.remaining input h.input full h.read in
       let w = h.holds.holds in (
-        h.input,
         h.holds.input,
+        h.input,
         (bytes.1 ∙ ap Some (sym script), sym trace),
-        by_answer shows h.input h.holds.input plan n dealt old new status w.answer result w.is w.out ends line,
+        by_answer shows h.holds.input h.input plan n dealt old new status w.answer result w.is w.out line,
       )
 
   -- a run of what was asked for
   by_run : (request : Request) (n : ℕ) → request.plan.groups ≡ Dealt n → (result : Result Replayed ConsumeFault) → IsRunOf shows request holds old new result
-      → status ≡ status_at_end result → IsReported result old.errors new.errors
-      → IsBroken old new status ⊎ ((script trace : List ℕ) × IsSource (option_map string_bytes request.file) holds input script trace × Came shows script trace old new status)
-  by_run request n dealt (Err Read) run ends line = inl (record { fault = Read; is = refl; ends = ends; line = line })
-  by_run request n dealt (Ok r) run ends line = inr (by_file request.plan n dealt (Ok r) ends line request.file (run.shown (λ e. cc)))
-  by_run request n dealt (Err Write) run ends line = inr (by_file request.plan n dealt (Err Write) ends line request.file (run.shown (λ e. cc)))
-  by_run request n dealt (Err (Refused f)) run ends line = inr (by_file request.plan n dealt (Err (Refused f)) ends line request.file (run.shown (λ e. cc)))
+      → IsReported result old.errors new.errors status → IsBroken old new status ⊎ ((script trace : List ℕ) × IsSource (option_map string_bytes request.file) holds input script trace × Came shows script trace old new status)
+  by_run request n dealt (Err Read) run line = inl (record { fault = Read; is = refl; line = line })
+  by_run request n dealt (Ok r) (inl run) line = inr (by_file request.plan n dealt (Ok r) line request.file (run.shown (λ e. cc)))
+  by_run request n dealt (Err Write) (inl run) line = inr (by_file request.plan n dealt (Err Write) line request.file (run.shown (λ e. cc)))
+  by_run request n dealt (Err (Refused f)) (inl run) line = inr (by_file request.plan n dealt (Err (Refused f)) line request.file (run.shown (λ e. cc)))
+  by_run request n dealt result (inr none) line = inl (record { fault = Read; is = refl; line = subst (λ r. IsReported r old.errors new.errors status) none.1 line })
 
   -- words that ask for a run are no mistake
   spent : (words : List (List ℕ)) (request : Request) (fault : UsageFault) → Asks words request → IsFaultOf words fault ⊎ (fault ≡ usage.Memory)
       → EndsWithoutRun fault old new status → IsBroken old new status
-  spent words request usage.Memory asks is ends = record { fault = Refused Memory; is = refl; ends = ends.ends; line = ends.line }
+  spent words request usage.Memory asks is ends = record { fault = Refused Memory; is = refl; line = ends.line }
   spent words request (Help e) asks (inr is) ends = absurd cc
   spent words request (Usage e) asks (inr is) ends = absurd cc
   spent words request (Help e) asks (inl is) ends = absurd (none_among (fault_of program words) _ asks.accepted is.1)
@@ -201,11 +199,11 @@ module _ (shows : LayoutMeant) (holds : List ℕ → Option (List ℕ)) (known :
   by_program : {A Z E : Type 0} (all : IntoIter (String A) Z) (request : Request) → Asks (words_of all) request → Ends {E = E} shows (Ok all) holds old new status
       → IsBroken old new status
       ⊎ ((script trace : List ℕ) × IsSource (file_in (matches_of program (words_of all))) holds input script trace × Came shows script trace old new status)
-  by_program all request asks (ran own result asked run ends line) =
+  by_program all request asks (ran own result asked run line) =
       ⊎_elim (λ (is : IsBroken old new status). inl is)
       (λ (came : (script trace : List ℕ) × IsSource (option_map string_bytes own.file) holds input script trace × Came shows script trace old new status).
       inr (came.0, came.1, subst (λ file. IsSource file holds input came.0 came.1) asked.named.file came.2, came.3))
-      (by_run own asked.named.plan.groups.0 asked.named.plan.groups.1 result run ends line)
+      (by_run own asked.named.plan.groups.0 asked.named.plan.groups.1 result run line)
   by_program all request asks (without_run fault unasked unread ends) =
       inl (spent (words_of all) request fault asks (⊎_elim (λ (is : fault ≡ usage.Memory). inr is) (λ (is : IsFaultOf (words_of all) fault). inl is) unasked) ends)
 

@@ -2,6 +2,7 @@
 use Rattle.std.proofs.Common.{◌≡◌, ◌<◌, ℕ, List, [], ◌++◌, sym, ap, ◌∙◌, subst, append_assoc}
 use Rattle.std.proofs.Common.{append-nil, arith, length, refl, take}
 use Rattle.std.specs.Prelude.{IfOk, IfSome, Option, Some, None, OnOk, Result, Ok, Err}
+use Rattle.std.proofs.lemmas.Result.{on_ok_weaker}
 use Rattle.firing_reader.specs.Blocks.{Taken}
 use Rattle.consumer.specs.Steps.Beginnings.{IsDividedAt, IsUndivided}
 use Rattle.consumer.specs.Steps.Blocks.{HasTaken, IsTakenApart, Splits, Takes, TakesRows, Tells}
@@ -12,11 +13,7 @@ use Rattle.consumer.specs.declared.intake.Input.{Input}
 use Rattle.consumer.proofs.LongFiles.{judged_alike}
 use Rattle.consumer.proofs.LongScripts.{long_script}
 
--- what follows of a value follows of that of a result
-pub on_ok : {A E : Type 0} (r : Result A E) (P Q : Type 0) → (P → Q) → OnOk r P → OnOk r Q
-on_ok (Ok a) P Q f h = f h
-on_ok (Err e) P Q f h = tt
-
+-- what holds anyway holds if there is a value
 pub on_ok_any : {A E : Type 0} (r : Result A E) (P : Type 0) → P → OnOk r P
 on_ok_any (Ok a) P h = h
 on_ok_any (Err e) P h = tt
@@ -64,7 +61,7 @@ pub taken_of : (first script trace : List ℕ) (t : Input) → Tells first scrip
     → ((rest : List ℕ) → reads t.trace rest ≡ trace_of (trace ++ rest)) → HasTaken None [] (Some t) first
 taken_of first script trace t tells judged read = λ rest.
     let (script', trace', divides, is, more) = tells t.script rest judged in
-    record { script = script'; trace = trace'; splits = divides; is_judged = is; read = on_ok t.script _ _ (λ same. read rest ∙ ap trace_of (sym same)) more }
+    record { script = script'; trace = trace'; splits = divides; is_judged = is; read = on_ok_weaker t.script (λ same. read rest ∙ ap trace_of (sym same)) more }
 
 -- the block has all that has come, and may tell the script
 pub block_goes : (block all : List ℕ) (o put told : Option Input) (bytes : List ℕ) → o ≡ None → put ≡ told → all ≡ block ++ bytes

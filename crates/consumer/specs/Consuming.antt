@@ -1,25 +1,29 @@
 -- From a reader's bytes to a writer's.
-use Rattle.std.specs.Prelude.{◌≡◌, ◌≢◌, ◌≤◌, ◌⊎◌, ◌+◌, ℕ, List, Option, Result, Ok, Err, IfSome}
-use Rattle.std.specs.Prelude.{IsTrue, IsFalse}
+use Rattle.std.specs.Prelude.{◌≡◌, ◌≢◌, ◌≤◌, ◌⊎◌, ◌+◌, ℕ, List, Option, Result, Ok, Err, IfErr}
+use Rattle.std.specs.Prelude.{IfSome, IsTrue, IsFalse}
 use Rattle.replay_core.specs.Layouts.{LayoutMeant}
 use Rattle.streams.specs.{Stream.FeedSeen, Stream.IsSent, Stream.SinkSeen, Turns.IsCutShort}
 use Rattle.consumer.specs.Vocabulary.{MAX_CALLS, ReadFault, Failed, ConsumeFault, Read, Refused}
 use Rattle.consumer.specs.Vocabulary.{Write, Refusal, Memory, Plan, Replayed}
 use Rattle.consumer.specs.{Bundle.Divides, Replaying.IsReplay}
 
--- The reader was read to its end, or the fault says why not. It, and only it, is blamed if it
--- failed or had not ended.
-pub record IsReadToEnd (old new : FeedSeen) (result : Result Replayed ConsumeFault) : Type 0 where
-  pub blamed : result ≡ Err Read → IsCutShort old new
-  pub whole : result ≢ Err Read
-      → IsFalse new.has_failed × ((result ≡ Err (Refused Memory)) ⊎ IsTrue new.has_ended)
-  pub few : new.calls ≤ old.calls + MAX_CALLS
-
 -- this holds of the bytes that were to be read; if these are not known, of some
 pub record HoldsOfInput (remaining : Option (List ℕ)) (Holds : List ℕ → Type 0) : Type 0 where
   pub input : List ℕ
   pub read : IfSome remaining (λ bytes. input ≡ bytes)
   pub holds : Holds input
+
+-- The reader was read to its end, or the fault says why not. It, and only it, is blamed if it
+-- failed or had not ended; otherwise this holds of its bytes. Without an answer the writer stays
+-- as it was, unless it failed.
+pub record IsConsumed {S : Type 0} (old new : FeedSeen) (sink sink' : S)
+    (result : Result Replayed ConsumeFault) (Holds : List ℕ → Type 0) : Type 0 where
+  pub blamed : result ≡ Err Read → IsCutShort old new
+  pub whole : result ≢ Err Read
+      → IsFalse new.has_failed × ((result ≡ Err (Refused Memory)) ⊎ IsTrue new.has_ended)
+  pub few : new.calls ≤ old.calls + MAX_CALLS
+  pub shown : result ≢ Err Read → HoldsOfInput old.remaining Holds
+  pub untouched : result ≢ Err Write → IfErr result (λ e. sink' ≡ sink)
 
 -- The answer goes out and is flushed; if there is none, nothing is written. The writer, and only
 -- it, is blamed if it failed.
@@ -39,17 +43,10 @@ pub record WritesAnswer (shows : LayoutMeant) (script trace : List ℕ) (plan : 
   pub out : WritesOut answer old new result
 
 -- what goes out is the answer of a bundle's script over its trace
-abbrev pub WritesBundle : LayoutMeant → (bundle : Option (List ℕ)) → Plan → (old new : SinkSeen)
+abbrev pub WritesBundle : LayoutMeant → (bundle : List ℕ) → Plan → (old new : SinkSeen)
     → Result Replayed ConsumeFault → Type 0
-WritesBundle shows bundle plan old new result =
-    HoldsOfInput bundle (λ bytes. (script trace : List ℕ) × Divides bytes script trace
-    × WritesAnswer shows script trace plan old new result)
-
--- what goes out is the answer of the script over a trace that is read
-abbrev pub WritesOver : LayoutMeant → (script : List ℕ) → (trace : Option (List ℕ)) → Plan
-    → (old new : SinkSeen) → Result Replayed ConsumeFault → Type 0
-WritesOver shows script trace plan old new result =
-    HoldsOfInput trace (λ bytes. WritesAnswer shows script bytes plan old new result)
+WritesBundle shows bundle plan old new result = (script trace : List ℕ)
+    × Divides bundle script trace × WritesAnswer shows script trace plan old new result
 
 -- how a fault of reading is reported
 abbrev pub fault_of_reading : ReadFault → ConsumeFault

@@ -1,5 +1,5 @@
 -- How the program ends, and what went to its streams by then.
-use Rattle.std.specs.Prelude.{◌≡◌, ◌≢◌, ◌⊎◌, ℕ, List, Option, Result, Err, IsFalse, IsOkAnd, IsSome}
+use Rattle.std.specs.Prelude.{◌≡◌, ◌⊎◌, ℕ, List, Option, Result, Err, IsFalse, IsOkAnd, IsSome}
 use Rattle.std.specs.Prelude.{MatchBool, MatchOption, MatchResult}
 use Rattle.std.specs.Prelude.{drop, map, string_bytes}
 use Rattle.std.specs.Io.KnownBytes.{Appends}
@@ -7,7 +7,7 @@ use Rattle.std.specs.declared.vec.IntoIter.{IntoIter}
 use Rattle.std.specs.declared.string.String.{String}
 use Rattle.replay_core.specs.Layouts.{LayoutMeant}
 use Rattle.streams.specs.Stream.{FeedSeen, IsSent, SinkSeen}
-use Rattle.consumer.specs.Consuming.{HoldsOfInput, IsReadToEnd, WritesBundle, WritesOver}
+use Rattle.consumer.specs.Consuming.{HoldsOfInput, IsConsumed, WritesAnswer, WritesBundle}
 use Rattle.consumer.specs.Refusals.{IsReported, status_at_end}
 use Rattle.consumer.specs.Vocabulary.{into_iter_items, ConsumeFault, Request}
 use Rattle.consumer.specs.Vocabulary.{Read, Refused, Write, Memory, Replayed, UsageFault}
@@ -53,33 +53,31 @@ IsNoRequest given fault = (fault ≡ usage.Memory) ⊎ MatchResult given
 -- ---- a run
 
 -- What was asked for is run: without a file over the input's bundle, and with one, which has the
--- script, over the input's trace. The result is of the input's bytes, and of the file's.
-pub record IsRunOf (shows : LayoutMeant) (request : Request) (holds : List ℕ → Option (List ℕ))
-    (old new : StreamsSeen) (result : Result Replayed ConsumeFault) : Type 0 where
-  pub shown : result ≢ Err Read → MatchOption request.file
-      (WritesBundle shows old.input.remaining request.plan old.output new.output result)
-      (λ file. HoldsOfInput (holds (string_bytes file)) (λ script.
-      WritesOver shows script old.input.remaining request.plan old.output new.output result))
-  -- the input was read; or the file could not be, and no input was
-  pub read : IsReadToEnd old.input new.input result
-      ⊎ (IsSome request.file × (result ≡ Err Read) × (new.input ≡ old.input))
-  -- if reading failed nothing is written
-  pub unread : result ≡ Err Read → new.output ≡ old.output
+-- script, over the input's trace. The result is of the input's bytes, and of the file's. Or the
+-- file could not be read, and no input was.
+abbrev pub IsRunOf : LayoutMeant → Request → (holds : List ℕ → Option (List ℕ))
+    → (old new : StreamsSeen) → Result Replayed ConsumeFault → Type 0
+IsRunOf shows request holds old new result =
+    IsConsumed old.input new.input old.output new.output result (λ input. MatchOption request.file
+    (WritesBundle shows input request.plan old.output new.output result)
+    (λ file. HoldsOfInput (holds (string_bytes file)) (λ script.
+    WritesAnswer shows script input request.plan old.output new.output result)))
+    ⊎ (IsSome request.file × (result ≡ Err Read) × (new.input ≡ old.input)
+    × (new.output ≡ old.output))
 
 -- ---- without a run
 
 -- memory ran out: the program says so
 pub record IsSpent (old new : StreamsSeen) (status : ℕ) : Type 0 where
-  pub ends : status ≡ 1
   pub output : new.output ≡ old.output
-  pub line : IsReported (Err (Refused Memory)) old.errors new.errors
+  pub line : IsReported (Err (Refused Memory)) old.errors new.errors status
 
 -- help goes to the output; if that fails, the program says so
 pub record IsHelped (old new : StreamsSeen) (status : ℕ) : Type 0 where
   pub text : List ℕ
   pub sent : IsSent text old.output new.output
   pub ends : MatchBool new.output.has_failed
-      ((status ≡ 1) × IsReported (Err Write) old.errors new.errors)
+      (IsReported (Err Write) old.errors new.errors status)
       ((status ≡ 0) × (new.errors ≡ old.errors))
 
 -- what is wrong with the words goes to standard error
@@ -101,8 +99,8 @@ EndsWithoutRun usage.Memory old new status = IsSpent old new status
 pub data Ends {A Z E : Type 0} (shows : LayoutMeant) (given : Result (IntoIter (String A) Z) E)
     (holds : List ℕ → Option (List ℕ)) (old new : StreamsSeen) (status : ℕ) : Type 0 where
   ran : (request : Request) (result : Result Replayed ConsumeFault) → IsRequest given request
-      → IsRunOf shows request holds old new result → status ≡ status_at_end result
-      → IsReported result old.errors new.errors → Ends shows given holds old new status
+      → IsRunOf shows request holds old new result → IsReported result old.errors new.errors status
+      → Ends shows given holds old new status
   without_run : (fault : UsageFault) → IsNoRequest given fault → new.input ≡ old.input
       → EndsWithoutRun fault old new status → Ends shows given holds old new status
 
@@ -110,8 +108,7 @@ pub data Ends {A Z E : Type 0} (shows : LayoutMeant) (given : Result (IntoIter (
 pub record IsBroken (old new : StreamsSeen) (status : ℕ) : Type 0 where
   pub fault : ConsumeFault
   pub is : status_at_end (Err fault) ≡ 1
-  pub ends : status ≡ 1
-  pub line : IsReported (Err fault) old.errors new.errors
+  pub line : IsReported (Err fault) old.errors new.errors status
 
 -- the same bytes go to two sinks
 pub record WriteAlike (old new old' new' : SinkSeen) : Type 0 where

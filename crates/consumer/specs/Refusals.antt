@@ -1,5 +1,5 @@
 -- What the program says of a refusal, and how it ends.
-use Rattle.std.specs.Prelude.{◌≡◌, ℕ, List, [], ◌∷◌, ◌++◌, Result, Ok, Err, codes}
+use Rattle.std.specs.Prelude.{◌≡◌, ℕ, List, [], ◌∷◌, ◌++◌, Result, Ok, Err, MatchResult, codes}
 use Rattle.streams.specs.Stream.{IsSent, SinkSeen}
 use Rattle.consumer.specs.Lines.{column_part, line_part, row_part, thread_part}
 use Rattle.consumer.specs.Vocabulary.{LexFault, ParseFault, TypeFault, TraceFault, GroupFault}
@@ -79,11 +79,6 @@ consume_fault_line Read = codes "dreplay: read failed"
 consume_fault_line (Refused e) = refusal_line e
 consume_fault_line Write = codes "dreplay: write failed"
 
--- if there is no answer, its line goes to standard error
-abbrev pub IsReported : Result Replayed ConsumeFault → (old new : SinkSeen) → Type 0
-IsReported (Ok r) old new = new ≡ old
-IsReported (Err e) old new = IsSent (consume_fault_line e ++ 10 ∷ []) old new
-
 -- ---- the status
 
 -- the status of a plain refusal
@@ -104,3 +99,8 @@ status_at_end (Ok r) = r.status
 status_at_end (Err Read) = 1
 status_at_end (Err (Refused e)) = status_of e
 status_at_end (Err Write) = 1
+
+-- this is its status; and if there is no answer, its line goes to standard error
+abbrev pub IsReported : Result Replayed ConsumeFault → (old new : SinkSeen) → ℕ → Type 0
+IsReported result old new status = (status ≡ status_at_end result)
+    × MatchResult result (λ r. new ≡ old) (λ e. IsSent (consume_fault_line e ++ 10 ∷ []) old new)

@@ -1,9 +1,9 @@
 -- What the words after the program's name ask for.
 use Rattle.std.specs.Prelude.{◌≡◌, ◌≢◌, ◌⊎◌, ◌∷◌, ◌++◌, ◌≤◌, ℕ, List, [], Option, Some, None}
-use Rattle.std.specs.Prelude.{IsSomeAnd, codes, fold, if◌then◌else◌, option_and_then, option_map}
-use Rattle.std.specs.Prelude.{pos, string_bytes, true}
+use Rattle.std.specs.Prelude.{IfErr, IsSomeAnd, MatchResult, Result, codes, fold, if◌then◌else◌}
+use Rattle.std.specs.Prelude.{option_and_then, option_map, pos, string_bytes, true}
 use Rattle.clap.specs.Words.{App, IsAmong, Row, Rule, fault_of, first_of, kind_of, matches_of}
-use Rattle.clap.specs.Words.{new_app, new_rule, one_of, with_rule}
+use Rattle.clap.specs.Words.{new_app, new_rule, one_of, takes, with_rule}
 use Rattle.consumer.specs.Vocabulary.{bytes_eq, IsNumeral, digits_value, without_leading_plus}
 use Rattle.consumer.specs.Vocabulary.{Signed, ErrorKind, DisplayHelp, OutOfMemory, InvalidValue}
 use Rattle.consumer.specs.Vocabulary.{UnknownArgument, Request, UsageFault, EngineKind, Dif, Tree}
@@ -100,6 +100,12 @@ IsFaultOf words (Usage e) = (kind_of e ≢ DisplayHelp) × (kind_of e ≢ OutOfM
     × (IsAmong (kind_of e) (fault_of program words)
     ⊎ ((fault_of program words ≡ []) × ¬ HasPlan words))
 IsFaultOf words Memory = Unit {0}
+
+-- the words ask for this request, or for no run by this fault; if clap takes them and they name a
+-- plan, it is memory alone
+pub record AreRead (words : List (List ℕ)) (result : Result Request UsageFault) : Type 0 where
+  pub exact : MatchResult result (Asks words) (IsFaultOf words)
+  pub taken : takes program words ≡ true → HasPlan words → IfErr result (λ e. e ≡ Memory)
 
 -- a hyphen and more
 abbrev pub IsOption : List ℕ → Type 0

@@ -1,7 +1,7 @@
 //! From the bytes in to the bytes out.
 
 ghost use Rattle.std.specs.Prelude.{◌≡◌, ◌≢◌, [], List, ℕ, Err, IfErr, IsFalse, OnOk};
-ghost use Rattle.consumer.specs.Consuming.{IsReadToEnd, WritesBundle, WritesOut, WritesOver};
+ghost use Rattle.consumer.specs.Consuming.{IsConsumed, WritesAnswer, WritesBundle, WritesOut};
 ghost use Rattle.consumer.specs.Consuming.{fault_of_reading};
 ghost use Rattle.consumer.specs.{Replaying.IsReplay, Steps.Judging.IsJudged};
 ghost use Rattle.consumer.specs.Vocabulary.{Memory, Refused, reads, trace_of};
@@ -68,14 +68,10 @@ impl<'a, R: Threads + Wait + Sync, L: Layout> Consumer<'a, R, L> {
         sink: &mut S,
         plan: &Plan,
     ) -> Result<Replayed, ConsumeFault>
-        requires feed { IsFalse (F.seen feed.old).has_failed }
-        requires sink { IsFalse (S.seen sink.old).has_failed }
-        ensures read { IsReadToEnd (F.seen feed.old) (F.seen feed.new) result }
-        ensures shown { result ≢ Err ConsumeFault.Read
-            → WritesBundle L.shows (F.seen feed.old).remaining plan.now
-            (S.seen sink.old) (S.seen sink.new) result }
-        ensures untouched { result ≢ Err ConsumeFault.Write
-            → IfErr result (λ e. sink.new ≡ sink.old) }
+        requires { IsFalse (F.seen feed.old).has_failed × IsFalse (S.seen sink.old).has_failed }
+        ensures { IsConsumed (F.seen feed.old) (F.seen feed.new) sink.old sink.new result
+            (λ bundle. WritesBundle L.shows bundle plan.now
+            (S.seen sink.old) (S.seen sink.new) result) }
     {
         let input = self.intake(plan).read_from(feed, None)?;
         write_out(self.answer(input, plan), sink)
@@ -97,14 +93,10 @@ impl<'a, R: Threads + Wait + Sync, L: Layout> Consumer<'a, R, L> {
         sink: &mut S,
         plan: &Plan,
     ) -> Result<Replayed, ConsumeFault>
-        requires feed { IsFalse (F.seen feed.old).has_failed }
-        requires sink { IsFalse (S.seen sink.old).has_failed }
-        ensures read { IsReadToEnd (F.seen feed.old) (F.seen feed.new) result }
-        ensures shown { result ≢ Err ConsumeFault.Read
-            → WritesOver L.shows script.now (F.seen feed.old).remaining plan.now
-            (S.seen sink.old) (S.seen sink.new) result }
-        ensures untouched { result ≢ Err ConsumeFault.Write
-            → IfErr result (λ e. sink.new ≡ sink.old) }
+        requires { IsFalse (F.seen feed.old).has_failed × IsFalse (S.seen sink.old).has_failed }
+        ensures { IsConsumed (F.seen feed.old) (F.seen feed.new) sink.old sink.new result
+            (λ trace. WritesAnswer L.shows script.now trace plan.now
+            (S.seen sink.old) (S.seen sink.new) result) }
     {
         let intake = self.intake(plan);
         let begun = intake.begun(script, &[])?;

@@ -19,8 +19,7 @@ use streams::{Sink, send};
 /// ```
 pub fn end<E: Sink>(errors: &mut E, answer: &Result<Replayed, ConsumeFault>) -> u8
     requires { IsFalse (E.seen errors.old).has_failed }
-    ensures status { result ≡ status_at_end answer.now }
-    ensures line { IsReported answer.now (E.seen errors.old) (E.seen errors.new) }
+    ensures { IsReported answer.now (E.seen errors.old) (E.seen errors.new) result }
 {
     if let Err(fault) = answer {
         let mut line = reason_line(fault_reason(fault));
@@ -38,8 +37,7 @@ pub fn end<E: Sink>(errors: &mut E, answer: &Result<Replayed, ConsumeFault>) -> 
 /// ```
 pub fn fail<E: Sink>(errors: &mut E, fault: ConsumeFault) -> u8
     requires { IsFalse (E.seen errors.old).has_failed }
-    ensures status { result ≡ status_at_end (Err fault) }
-    ensures line { IsReported (Err fault) (E.seen errors.old) (E.seen errors.new) }
+    ensures { IsReported (Err fault) (E.seen errors.old) (E.seen errors.new) result }
 {
     let answer: Result<Replayed, ConsumeFault> = Err(fault);
     let status = end(errors, &answer);

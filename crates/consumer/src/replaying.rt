@@ -103,29 +103,10 @@ impl<'a, R: Threads + Wait + Sync, L: Layout> Consumer<'a, R, L> {
             → trace_of bytes ≡ Ok trace.now → IsReplay L.shows source bytes plan.now result }
     {
         let groups = groups_of(self.alloc, &plan.groups, trace)?;
-        let answer = self.replay_groups(script, trace, &groups, plan, gate);
+        let ran = self.run(script, trace, &groups, plan, gate);
         drop(groups);
-        let replayed = answer?;
+        let replayed = self.run_output(script, ran?)?;
         Ok(replayed)
-    }
-
-    // Runs a script over a trace, and shows what it makes.
-    fn replay_groups<G: Gate + Sync>(
-        &self,
-        script: &TypedScript,
-        trace: &Trace,
-        groups: &Groups,
-        plan: &Plan,
-        gate: &G,
-    ) -> Result<Replayed, AllocError>
-        requires { AreOf groups.now (run_threads trace.now) }
-        ensures { let m = typed_script_of script.now in
-            IsGroupedBy plan.now.groups trace.now (grouping groups.now)
-            → IfOk result (λ r. HasOutput L.shows m trace.now (output_of r)
-            × IsCarriedOut plan.now trace.now (firings_over m trace.now) r) }
-    {
-        let ran = self.run(script, trace, groups, plan, gate)?;
-        self.run_output(script, ran)
     }
 
     // Runs a script over a trace, by the engine and the workers of a plan.

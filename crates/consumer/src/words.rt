@@ -1,13 +1,13 @@
 //! The words after the program's name.
 
 ghost use Rattle.std.specs.Prelude.{◌≡◌, ◌⊎◌, ◌∷◌, [], ℕ, IfErr, IfOk, IfSome, IsErr, IsOkAnd};
-ghost use Rattle.std.specs.Prelude.{MatchResult, None, Some, codes, drop, false, map, option_map};
-ghost use Rattle.std.specs.Prelude.{pos, string_bytes, true};
-ghost use Rattle.clap.specs.Words.{app_of, found_of, kind_of, rows_of, rule_of, takes};
+ghost use Rattle.std.specs.Prelude.{MatchResult, None, Some, codes, drop, map, option_map};
+ghost use Rattle.std.specs.Prelude.{pos, string_bytes};
+ghost use Rattle.clap.specs.Words.{Rule, app_of, found_of, kind_of, rows_of};
 ghost use Rattle.consumer.specs.{Vocabulary.into_iter_items, Vocabulary.Signed};
 ghost use Rattle.consumer.specs.{declared.words.UsageFault.TheVariants.Memory};
-ghost use Rattle.consumer.specs.Words.{Asks, HasPlan, IsFaultOf, IsMistake, IsNumberIn, IsPlanIn};
-ghost use Rattle.consumer.specs.Words.{IsRequestIn, engine_called, engine_in};
+ghost use Rattle.consumer.specs.Words.{AreRead, IsMistake, IsNumberIn, IsPlanIn, IsRequestIn};
+ghost use Rattle.consumer.specs.Words.{engine_called, engine_in};
 ghost use Rattle.consumer.specs.Steps.Words.{HasRule, IsPlanFault, IsReportedAs};
 ghost use Rattle.consumer.specs.Words.{bare, file_in, number_option, option, option_or, program};
 
@@ -119,10 +119,7 @@ pub fn read_words<'a>(
     help: Help,
     words: &'a [&'a str],
 ) -> Result<Request, UsageFault>
-    ensures exact { let given = map (λ w. w.now) words.now in
-        MatchResult result (Asks given) (IsFaultOf given) }
-    ensures taken { let given = map (λ w. w.now) words.now in
-        takes program given ≡ true → HasPlan given → IfErr result (λ e. e ≡ Memory) }
+    ensures { AreRead (map (λ w. w.now) words.now) result }
 {
     let command = command(alloc, help)?;
     match command.try_get_matches_from(words) {
@@ -209,18 +206,16 @@ fn option<'a>(alloc: Global, id: &'a str, letter: char, value: &'a str, help: &'
 
 // An option that has the value `default` if it isn't given.
 fn with_default<'a>(option: Arg<'a>, default: &'a str) -> Arg<'a>
-    ensures rule { rule_of result
-        ≡ record (rule_of option.entry) { defaults = default.entry.now ∷ [] } }
-    ensures local { result.global ≡ option.entry.global }
+    ensures { (rule : Rule) → HasRule rule option.entry
+        → HasRule (record rule { defaults = default.entry.now ∷ [] }) result }
 {
     option.default_value(default)
 }
 
 // An option that takes a value from 1 to `most`.
 fn with_numbers<'a>(option: Arg<'a>, most: u32) -> Arg<'a>
-    ensures rule { rule_of result
-        ≡ record (rule_of option.entry) { parser = Some (Signed (pos 1) (pos most)) } }
-    ensures local { result.global ≡ option.entry.global }
+    ensures { (rule : Rule) → HasRule rule option.entry
+        → HasRule (record rule { parser = Some (Signed (pos 1) (pos most)) }) result }
 {
     option.value_parser(numbers_to(most))
 }

@@ -1,7 +1,7 @@
 //! From the bytes of a bundle to its report.
 
-ghost use Rattle.std.specs.Prelude.{◌≡◌, ◌≢◌, Err, IfErr, IsFalse};
-ghost use Rattle.consumer.specs.Consuming.{IsReadToEnd, WritesBundle};
+ghost use Rattle.std.specs.Prelude.{IsFalse};
+ghost use Rattle.consumer.specs.Consuming.{IsConsumed, WritesBundle};
 ghost use Rattle.report.specs.{Report.IsReport};
 
 use consumer::{ConsumeFault, Consumer, Plan, Replayed};
@@ -28,13 +28,10 @@ pub fn consume<R: Threads + Wait + Sync, F: Feed + Send, S: Sink>(
     sink: &mut S,
     plan: &Plan,
 ) -> Result<Replayed, ConsumeFault>
-    requires feed { IsFalse (F.seen feed.old).has_failed }
-    requires sink { IsFalse (S.seen sink.old).has_failed }
-    ensures read { IsReadToEnd (F.seen feed.old) (F.seen feed.new) result }
-    ensures shown { result ≢ Err ConsumeFault.Read
-        → WritesBundle IsReport (F.seen feed.old).remaining plan.now
-        (S.seen sink.old) (S.seen sink.new) result }
-    ensures untouched { result ≢ Err ConsumeFault.Write → IfErr result (λ e. sink.new ≡ sink.old) }
+    requires { IsFalse (F.seen feed.old).has_failed × IsFalse (S.seen sink.old).has_failed }
+    ensures { IsConsumed (F.seen feed.old) (F.seen feed.new) sink.old sink.new result
+        (λ bundle. WritesBundle IsReport bundle plan.now
+        (S.seen sink.old) (S.seen sink.new) result) }
 {
     Consumer::new(rt, alloc, Report).consume(feed, sink, plan)
 }

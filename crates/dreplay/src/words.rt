@@ -1,9 +1,7 @@
 //! The words after the program's name.
 
-ghost use Rattle.std.specs.Prelude.{◌≡◌, IfErr, MatchResult, map, true};
-ghost use Rattle.clap.specs.Words.{takes};
-ghost use Rattle.consumer.specs.Words.{Asks, HasPlan, IsFaultOf, program};
-ghost use Rattle.consumer.specs.declared.words.UsageFault.TheVariants.{Memory};
+ghost use Rattle.std.specs.Prelude.{map};
+ghost use Rattle.consumer.specs.Words.{AreRead};
 
 use crate::help::HELP;
 use consumer::{Request, UsageFault};
@@ -17,10 +15,7 @@ use std::alloc::Global;
 /// read_words(alloc, &["-w", "17"]); // Err(UsageFault::Usage(..))
 /// ```
 pub fn read_words<'a>(alloc: Global, words: &'a [&'a str]) -> Result<Request, UsageFault>
-    ensures exact { let given = map (λ w. w.now) words.now in
-        MatchResult result (Asks given) (IsFaultOf given) }
-    ensures taken { let given = map (λ w. w.now) words.now in
-        takes program given ≡ true → HasPlan given → IfErr result (λ e. e ≡ Memory) }
+    ensures { AreRead (map (λ w. w.now) words.now) result }
 {
     consumer::read_words(alloc, HELP, words)
 }

@@ -1,6 +1,6 @@
 -- A reading goes on turn by turn, and ends.
 use Rattle.std.proofs.Common.{◌≡◌, ◌≤◌, ◌<◌, ⊎_elim, inl, inr, ℕ, ◌+◌, ◌++◌, ◌∙◌, Bool, true, false, [], List, Result, Ok}
-use Rattle.std.proofs.Common.{Err, append_assoc, ap, arith, refl}
+use Rattle.std.proofs.Common.{Err, append_assoc, ap, arith}
 use Rattle.std.specs.Prelude.{IfOk, IsFalse, IsTrue, MatchBool, OnOk}
 use Rattle.std.specs.Io.KnownBytes.{Consumes}
 use Rattle.std.proofs.KnownBytes.{Consumes-nil, Consumes-trans}
@@ -50,21 +50,27 @@ module _ (old mid new : FeedSeen) (left left' : ℕ) (Takes : List ℕ → Type 
   }
 
   pub turn_fails : {A : Type 0} (fault : ReadFault) → IsTurn mid new left left' (Err fault) Takes → IsReading {A = A} old new (Err fault)
-  turn_fails Failed turn = record {
+  turn_fails fault turn = record {
     ended = tt;
-    failed = λ e. ⊎_elim (λ (failed : IsTrue new.has_failed). inl failed)
-        (λ (spent : IsFalse new.has_ended × (left' ≡ 0)). let none = spent.1 in inr (spent.0, omega (arith, turn.counted, made.counted, none))) (turn.failed refl);
-    memory = λ e. cc;
+    failed = λ e. let is : fault ≡ Failed = cc in ⊎_elim (λ (failed : IsTrue new.has_failed). inl failed)
+        (λ (spent : IsFalse new.has_ended × (left' ≡ 0)). let none = spent.1 in inr (spent.0, omega (arith, turn.counted, made.counted, none))) (turn.failed (ap Err is));
+    memory = λ e. let is : fault ≡ Memory = cc in turn.memory (ap Err is);
     rest = lost _ turn;
     few = omega (arith, turn.counted, made.counted);
   }
-  turn_fails Memory turn = record {
-    ended = tt;
-    failed = λ e. cc;
-    memory = λ e. turn.memory refl;
-    rest = lost _ turn;
-    few = omega (arith, turn.counted, made.counted);
-  }
+
+-- this follows of what a turn does with its bytes
+pub turn_with : {old new : FeedSeen} {left left' : ℕ} {result : Result Bool ReadFault} {Takes Takes' : List ℕ → Type 0} (turn : IsTurn old new left left' result Takes)
+    → OnOk result (Takes' turn.bytes) → IsTurn old new left left' result Takes'
+turn_with turn taken = record {
+  counted = turn.counted;
+  given = turn.given;
+  failed = turn.failed;
+  memory = turn.memory;
+  bytes = turn.bytes;
+  gave = turn.gave;
+  taken = taken;
+}
 
 -- ---- turns that fill a block
 

@@ -1,5 +1,5 @@
 //! Reading a feed to its end.
-ghost use Rattle.std.specs.Prelude.{◌≡◌, ◌<◌, ◌++◌, ◌≤◌, IfErr, IfOk, Ok, false, length};
+ghost use Rattle.std.specs.Prelude.{◌≡◌, ◌<◌, ◌++◌, ◌≤◌, IfOk, Ok, false, length};
 ghost use Rattle.streams.specs.Turns.{GoesOn, IsTurn};
 ghost use Rattle.streams.specs.declared.reading.ReadFault.TheVariants.{Memory};
 
@@ -48,9 +48,8 @@ impl Reading {
     /// let mut reading = Reading::new(alloc)?;
     /// reading.calls_left; // 4,294,967,296
     /// ```
-    pub fn new(alloc: Global) -> Result<Reading, ReadFault>
-        ensures reading { IfOk result (λ r. r.calls_left ≡ MAX_CALLS) }
-        ensures fault { IfErr result (λ e. e ≡ Memory) }
+    pub fn new(alloc: Global) -> Result<Reading, AllocError>
+        ensures { IfOk result (λ r. r.calls_left ≡ MAX_CALLS) }
     {
         let buffer = vec![in alloc; 0u8; ROOM]?;
         Ok(Reading {

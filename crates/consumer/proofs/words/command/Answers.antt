@@ -4,7 +4,7 @@ use Rattle.consumer.proofs.words.command.Goals as goal
 
 pub returns : goal.returns
 returns c =
-    let one = with_option _ _ _ bare _ c.in_ok-command.ensures c.script_option.ensures.1 c.script_option.ensures.0 c.bare_command-command.ensures in
-    let two = with_option _ _ _ _ _ c.in_ok-command-2.ensures c.workers_option.ensures.1 c.workers_option.ensures.0 one in
-    let three = with_option _ _ _ _ _ c.in_ok-command-3.ensures c.groups_option.ensures.1 c.groups_option.ensures.0 two in
-    ok_with_option _ _ _ _ _ c.arg-4.ensures c.engine_option.ensures.1 c.engine_option.ensures.0 three
+    let one = with_option _ _ _ bare _ c.in_ok-command.ensures c.script_option.ensures c.bare_command-command.ensures in
+    let two = with_option _ _ _ _ _ c.in_ok-command-2.ensures c.workers_option.ensures one in
+    let three = with_option _ _ _ _ _ c.in_ok-command-3.ensures c.groups_option.ensures two in
+    ok_with_option _ _ _ _ _ c.arg-4.ensures c.engine_option.ensures three

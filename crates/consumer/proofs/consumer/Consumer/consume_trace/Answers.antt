@@ -1,22 +1,23 @@
-use Rattle.std.proofs.Common.{Some}
+use Rattle.std.proofs.Common.{◌∙◌, Some, ap, arith}
+use Rattle.std.specs.Prelude.{Err}
+use Rattle.std.proofs.lemmas.Result.{err_from_is_err_and}
 use Rattle.consumer.specs.Consuming.{WritesAnswer}
 use Rattle.consumer.proofs.Taken.{begun_apart}
-use Rattle.consumer.proofs.Unread.{holds_of_any, memory_shown, none_shown, read_fails}
+use Rattle.consumer.proofs.Unread.{consumed, memory_shown, none_shown, read_fails, spent}
 use Rattle.consumer.proofs.consumer.Consumer.consume_trace.Goals as goal
 
-pub returns-in_err-begun-clause-shown : goal.returns-in_err-begun-clause-shown
-returns-in_err-begun-clause-shown g c = λ other. holds_of_any _ _
-    (λ trace. memory_shown c.args.script.now trace _ _ c.from_residual.result c.from_residual.ensures.1)
+pub returns-in_err-begun : goal.returns-in_err-begun
+returns-in_err-begun g c =
+    let p = err_from_is_err_and c.from_residual.result c.from_residual.ensures.1 in
+    let out = p.1 ∙ ap Err p.2 in
+    spent _ _ _ _ _ c.requires.0 (omega arith) out (λ trace. memory_shown c.args.script.now trace _ _ c.from_residual.result out)
 
-pub returns-in_err-input-clause-shown : goal.returns-in_err-input-clause-shown
-returns-in_err-input-clause-shown g c = λ other. holds_of_any _ _
-    (λ trace. none_shown c.args.script.now trace _ _ c.from_residual-in_err-input.result c.in_err-input.field-0.0 c.from_residual-in_err-input.ensures.1 other)
+pub returns-in_err-input : goal.returns-in_err-input
+returns-in_err-input g c = read_fails _ _ _ c.from_residual-in_err-input.result _ c.in_err-input.field-0.0 c.from_residual-in_err-input.ensures.1 c.in_err-input.ensures.reading
+    (λ other trace. none_shown c.args.script.now trace _ _ c.from_residual-in_err-input.result c.in_err-input.field-0.0 c.from_residual-in_err-input.ensures.1 other)
 
-pub returns-in_err-input-clause-read : goal.returns-in_err-input-clause-read
-returns-in_err-input-clause-read g c = read_fails _ _ c.from_residual-in_err-input.result c.in_err-input.field-0.0 c.from_residual-in_err-input.ensures.1 c.in_err-input.ensures.reading
-
-pub returns-clause-shown : goal.returns-clause-shown
-returns-clause-shown g c = λ other.
+pub returns : goal.returns
+returns g c =
     let all = c.in_ok-input.ensures.bytes in
     let input = all.holds (Some c.args.script.now) (begun_apart c.args.script.now c.in_ok-begun.begun c.in_ok-begun.ensures.judged c.in_ok-begun.ensures.trace) in
     let shown : WritesAnswer g.L.Layout.shows input.script input.trace c.args.plan.now (g.S.Sink.seen c.args.sink.now) (g.S.Sink.seen c.write_out.new.sink) c.write_out.result = record {
@@ -24,8 +25,8 @@ returns-clause-shown g c = λ other.
       is = c.answer.ensures input.script input.trace input.is_judged input.read;
       out = c.write_out.ensures.out;
     } in
-    record {
+    consumed _ _ _ _ c.write_out.result _ _ c.in_ok-input.ensures.reading c.write_out.ensures.read c.write_out.ensures.untouched (record {
       input = all.input;
       read = all.read;
       holds = rw (input.splits.0, input.splits.1) at shown;
-    }
+    })

@@ -7,9 +7,8 @@ use Rattle.consumer.proofs.consumer.Consumer.program.Goals as goal
 pub returns-in-Ok : goal.returns-in-Ok
 returns-in-Ok g c =
     let answer = c.run_request-answer.result in
-    let r = c.run_request-answer.ensures.run in
-    ran c.in-Ok.request answer c.in-Ok.ensures (record { shown = r.shown; read = r.read; unread = r.unread }) c.end-status.ensures.status
-    (subst (λ e. IsReported answer (g.E.Sink.seen e) (g.E.Sink.seen c.end-status.new.errors)) c.run_request-answer.ensures.errors c.end-status.ensures.line)
+    ran c.in-Ok.request answer c.in-Ok.ensures c.run_request-answer.ensures.run
+    (subst (λ e. IsReported answer (g.E.Sink.seen e) (g.E.Sink.seen c.end-status.new.errors) c.end-status.result) c.run_request-answer.ensures.errors c.end-status.ensures)
 
 pub returns-in-Err : goal.returns-in-Err
 returns-in-Err g c = without_run c.in-Err.fault c.in-Err.ensures (ap g.F.Feed.seen c.explain-status.ensures.input) c.explain-status.ensures.ends

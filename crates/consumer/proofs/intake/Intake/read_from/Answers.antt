@@ -17,7 +17,7 @@ loop-reading-init g c =
 pub returns-in_err-reading-clause-reading : goal.returns-in_err-reading-clause-reading
 returns-in_err-reading-clause-reading g c =
     let p = err_from_is_err_and c.from_residual.result c.from_residual.ensures.1 in
-    rw (p.1, p.2, c.in_err-reading.ensures.fault) (none_read _ c.requires)
+    rw (p.1, p.2) (none_read _ c.requires)
 
 pub returns-in_err-take_from-clause-reading : goal.returns-in_err-take_from-clause-reading
 returns-in_err-take_from-clause-reading g c =

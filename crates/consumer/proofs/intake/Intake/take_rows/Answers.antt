@@ -1,4 +1,5 @@
 use Rattle.std.proofs.Common.{◌≡◌, ◌∙◌, ◌++◌, ◌∷◌, ap, rules}
+use Rattle.streams.proofs.Readings.{turn_with}
 use Rattle.consumer.proofs.Taken.{rows_beside}
 use Rattle.consumer.proofs.intake.Intake.take_rows.Goals as goal
 
@@ -7,12 +8,4 @@ returns g c =
     let (row, is_row, back) = c.in_ok-take_out_row.ensures.row in
     let turn = rw c.in_ok-ended.was at c.read_beside-given.ensures.turn in
     let is_block : c.read_beside-given.new.block.items ≡ 10 ∷ (row ++ turn.bytes) = turn.taken ∙ ap (λ block. block ++ turn.bytes) is_row in
-    record {
-      counted = turn.counted;
-      given = turn.given;
-      failed = turn.failed;
-      memory = turn.memory;
-      bytes = turn.bytes;
-      gave = turn.gave;
-      taken = rows_beside _ _ _ _ row turn.bytes back (search rules) (λ rest. c.in_ok-take_block.ensures.taken (row ++ turn.bytes) rest is_block);
-    }
+    turn_with turn (rows_beside _ _ _ _ row turn.bytes back (search rules) (λ rest. c.in_ok-take_block.ensures.taken (row ++ turn.bytes) rest is_block))
