@@ -1,6 +1,6 @@
 -- Steps of a worker.
 use Rattle.std.proofs.Common.{◌≡◌, ℕ, zero, suc, ◌+◌, ◌<◌, ◌≤◌, true, false, cond, List, []}
-use Rattle.std.proofs.Common.{◌∷◌, ◌++◌, Some, All, map, filter, length, take, drop, get_or}
+use Rattle.std.proofs.Common.{◌∷◌, ◌++◌, Some, map, filter, length, take, drop, get_or}
 use Rattle.std.proofs.Common.{slice_get, sym, ap, ◌∙◌, subst, arith, append-nil}
 use Rattle.std.proofs.lemmas.List.{map-append}
 use Rattle.std.proofs.lemmas.List.Concat.{flat_map-append}
