@@ -2,7 +2,7 @@
 use Rattle.std.proofs.Common.{◌≡◌, ◌≢◌, ℕ, suc, ◌==◌, ◌⊎◌, inl, inr, ⊎_elim, ◌↔◌, Bool, true, false}
 use Rattle.std.proofs.Common.{cond, ◌&&◌, ◌||◌, List, [], ◌∷◌, ◌++◌, length, All, refl, sym, ap}
 use Rattle.std.proofs.Common.{◌∙◌, subst, arith}
-use Rattle.std.specs.Prelude.{not, IsTrue}
+use Rattle.std.specs.Prelude.{not, IsTrue, take, ◌≤◌}
 use Rattle.std.specs.List.{list_all, zip}
 use Rattle.std.proofs.lemmas.Bool.Decides.{Decides-eqb}
 use Rattle.d_parser.specs.declared.tree.Description.{Description}
@@ -73,13 +73,17 @@ passes_one p test own rest text plain takes e t =
 
 -- ---- runs without stars
 
-pub fits_there : (run text : List ℕ) → length run ≡ length text → list_all is_same_or_question (zip run text) ≡ true → Matches run text
-fits_there [] [] long e = refl
-fits_there [] (b ∷ text) long e = absurd (omega arith)
+pub zip_front : (run text : List ℕ) → zip run (take (length run) text) ≡ zip run text
+zip_front [] text = refl
+zip_front (p ∷ run) [] = refl
+zip_front (p ∷ run) (b ∷ text) = ap (λ l. (p, b) ∷ l) (zip_front run text)
+
+pub fits_there : (run text : List ℕ) → length run ≤ length text → list_all is_same_or_question (zip run text) ≡ true → Matches run (take (length run) text)
+fits_there [] text long e = refl
 fits_there (p ∷ run) [] long e = absurd (omega arith)
 fits_there (p ∷ run) (b ∷ text) long e =
     let both = and_parts (is_same_or_question (p, b)) (list_all is_same_or_question (zip run text)) e in
-    (b ∷ [], text, refl, same_takes p b both.0, fits_there run text (omega arith) both.1)
+    (b ∷ [], take (length run) text, refl, same_takes p b both.0, fits_there run text (omega arith) both.1)
 
 pub fits_back : (run text : List ℕ) → All (λ p. p ≢ 42) run → Matches run text → list_all is_same_or_question (zip run text) ≡ true
 fits_back [] [] plain m = refl

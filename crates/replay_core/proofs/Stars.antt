@@ -131,6 +131,12 @@ last_fits run text plain = (there, back)
         subst (λ l. Matches (42 ∷ run) l) (take-append-drop (length text - length run) text)
         (star_takes run (take (length text - length run) text) (drop (length text - length run) text) f.1)
 
+-- a run that is as long as the text
+pub fits_whole : (run text : List ℕ) (r : Bool) → length run ≡ length text → (IsTrue r ↔ Fits run text) → IsTrue r ↔ Matches run text
+fits_whole run text r long fits =
+    let all = take_all (length run) text (omega arith) in
+    (λ t. subst (Matches run) all (fits.0 t).1, λ m. fits.1 (omega arith, subst (Matches run) (sym all) m))
+
 -- ---- the pattern up to its first star
 
 -- a run before a star has one place
@@ -154,6 +160,15 @@ front_fits run after text plain = (there, back)
 
 rest_is : (n k : ℕ) (rest : List ℕ) → n ≡ length rest - k → take n (drop k rest) ≡ drop k rest
 rest_is n k rest e = take_all n (drop k rest) (let d = length-drop k rest in omega arith)
+
+-- a run that is as long as the end of the text
+pub fits_last : (run text : List ℕ) (n : ℕ) (r : Bool) → length run ≤ length text → n ≡ length text - (length text - length run)
+    → (IsTrue r ↔ Fits run (take n (drop (length text - length run) text))) → IsTrue r ↔ Matches run (drop (length text - length run) text)
+fits_last run text n r long e fits =
+    let rest = drop (length text - length run) text in
+    let same = rest_is n (length text - length run) text e in
+    let whole : length run ≡ length rest = let d = length-drop (length text - length run) text in omega arith in
+    fits_whole run rest r whole (subst (λ l. IsTrue r ↔ Fits run l) same fits)
 
 pub passed_more : (run text rest : List ℕ) (n : ℕ) → n ≡ length rest - 1 → All (λ p. p ≢ 42) run → ¬ Fits run rest → 1 ≤ length rest
     → ((after : List ℕ) → Matches (42 ∷ (run ++ after)) text ↔ Matches (42 ∷ (run ++ after)) rest)

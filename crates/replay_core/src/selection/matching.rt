@@ -1,7 +1,7 @@
 //! Which probes a description matches.
 
-ghost use Rattle.std.specs.Prelude.{◌≡◌, ◌≢◌, ◌≤◌, ◌-◌, ◌↔◌, ◌∷◌, ◌++◌, ◌&&◌, ◌==◌, ℕ, List, All};
-ghost use Rattle.std.specs.Prelude.{IsTrue, MatchOption, length, take, drop};
+ghost use Rattle.std.specs.Prelude.{◌≡◌, ◌≢◌, ◌≤◌, ◌↔◌, ◌∷◌, ◌++◌, ◌&&◌, ◌==◌, ℕ, List, All};
+ghost use Rattle.std.specs.Prelude.{IsTrue, MatchOption, length, take};
 ghost use Rattle.std.specs.List.{list_all, zip};
 ghost use Rattle.replay_core.specs.Patterns.{Matches, field_matches, is_same_or_question};
 ghost use Rattle.replay_core.specs.Steps.Patterns.{is_plain};
@@ -42,7 +42,7 @@ fn is_match(pattern: &[u8], text: &[u8]) -> bool
     ensures { IsTrue result ↔ Matches pattern.now text.now }
 {
     match split_at_first(pattern, b'*') {
-        None => fits(pattern, text),
+        None => pattern.len() == text.len() && begins(pattern, text),
         Some((run, behind)) => begins(run, text) && is_match_anywhere(behind, &text[run.len()..]),
     }
 }
@@ -60,7 +60,7 @@ fn is_match_anywhere(pattern: &[u8], text: &[u8]) -> bool
         pattern = behind;
         text = rest;
     }
-    ends(pattern, text)
+    pattern.len() <= text.len() && begins(pattern, &text[text.len() - pattern.len()..])
 }
 
 // What comes after the first place where the run fits.
@@ -80,31 +80,16 @@ fn behind_first<'a>(run: &[u8], text: &'a [u8]) -> Option<&'a [u8]>
     Some(&rest[run.len()..])
 }
 
+// A run without stars matches byte by byte.
 fn begins(run: &[u8], text: &[u8]) -> bool
     requires { All (λ p. p ≢ 42) run.now }
     ensures { IsTrue result
         ↔ ((length run.now ≤ length text.now) × Matches run.now (take (length run.now) text.now)) }
 {
-    run.len() <= text.len() && fits(run, &text[..run.len()])
+    run.len() <= text.len() && are_same(run, text)
 }
 
-fn ends(run: &[u8], text: &[u8]) -> bool
-    requires { All (λ p. p ≢ 42) run.now }
-    ensures { IsTrue result
-        ↔ ((length run.now ≤ length text.now)
-        × Matches run.now (drop (length text.now - length run.now) text.now)) }
-{
-    run.len() <= text.len() && fits(run, &text[text.len() - run.len()..])
-}
-
-// A pattern without stars matches byte by byte.
-fn fits(run: &[u8], text: &[u8]) -> bool
-    requires { All (λ p. p ≢ 42) run.now }
-    ensures { IsTrue result ↔ Matches run.now text.now }
-{
-    run.len() == text.len() && are_same(run, text)
-}
-
+// Whether the first bytes are the same, as far as both go.
 fn are_same(run: &[u8], text: &[u8]) -> bool
     ensures { result ≡ list_all is_same_or_question (zip run.now text.now) }
 {
