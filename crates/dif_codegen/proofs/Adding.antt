@@ -1,17 +1,16 @@
 -- Pieces, one after another.
-use Rattle.std.specs.Prelude.{◌≡◌, ◌≤◌, ◌<◌, ℕ, zero, suc, ◌+◌, get_or, List, [], ◌∷◌, ◌++◌, length}
-use Rattle.std.specs.Prelude.{drop, Some, Result, Ok, Err, OnOk, slice_get, slice_set}
+use Rattle.std.specs.Prelude.{◌≡◌, ◌≤◌, ℕ, ◌+◌, List, [], ◌∷◌, ◌++◌, length}
+use Rattle.std.specs.Prelude.{drop, Result, Ok, Err, OnOk, slice_set}
 use Rattle.std.proofs.Common.{refl, sym, ap, ◌∙◌, subst, arith, append_assoc, length-append}
 use Rattle.std.proofs.Common.{append-nil}
 use Rattle.std.proofs.Math.Seq.{set-append_seam}
+use Rattle.std.proofs.lemmas.List.{drop_all}
 use Rattle.d_values.specs.declared.variable.Var.{Var}
 use Rattle.d_types.specs.declared.typed.TypedExpr.{TypedExpr}
 use Rattle.d_types.specs.declared.typed.Space.TheVariants as sp
-use Rattle.std.proofs.lemmas.Option.{slice_get_read}
 use Rattle.d_types.specs.Needs.{count, need_of_keys}
 use Rattle.dif_codegen.proofs.Simulation.{count_fits}
-use Rattle.d_types.specs.Typed.{Typed, Typeds, Logic, end, more, typed_of, typeds_of}
-use Rattle.d_parser.specs.declared.operators.LogicOperator.{LogicOperator}
+use Rattle.d_types.specs.Typed.{Typed, Typeds, typeds_of}
 use Rattle.dif_validate.specs.declared.register.Reg.{Reg}
 use Rattle.dif_validate.specs.declared.register.Reg.TheVariants.{R1}
 use Rattle.dif_codegen.specs.Steps.Code.{code_of, keys_code, pushing, element_code, fetching}
@@ -128,25 +127,11 @@ choice_adds test condition g h o a b c d e z branch jump t s0 u v s1 w x closed 
 pub no_adds : (d : Difo) → Adds nothing d d
 no_adds d = record { code = sym (append-nil _); texts = sym (append-nil _); numbers = sym (append-nil _) }
 
-dropped : (keys : List TypedExpr) (i : ℕ) → length keys ≤ i → typeds_of (drop i keys) ≡ end
-dropped [] zero h = refl
-dropped [] (suc i) h = refl
-dropped (x ∷ keys) zero h = absurd (omega arith)
-dropped (x ∷ keys) (suc i) h = dropped keys i (omega arith)
-
-pub next_key : (keys : List TypedExpr) (i : ℕ) (x : TypedExpr) → slice_get keys i ≡ Some x → typeds_of (drop i keys) ≡ more (typed_of x) (typeds_of (drop (i + 1) keys))
-next_key [] zero x h = cc
-next_key [] (suc i) x h = cc
-next_key (y ∷ keys) zero x h = let e : y ≡ x = cc in ap (λ y. more (typed_of y) (typeds_of keys)) e
-next_key (y ∷ keys) (suc i) x h =
-    let e : suc i + 1 ≡ suc (i + 1) = omega arith in
-    next_key keys i x h ∙ ap (λ n. more (typed_of x) (typeds_of (drop n (y ∷ keys)))) (sym e)
-
 pub pushed_all : (keys : List TypedExpr) (i q : ℕ) (d : Difo) → length keys ≤ i → Adds (pushing (typeds_of (drop i keys)) q) d d
-pushed_all keys i q d h = subst (λ ks. Adds (pushing ks q) d d) (sym (dropped keys i h)) (no_adds d)
+pushed_all keys i q d h = subst (λ ks. Adds (pushing (typeds_of ks) q) d d) (sym (drop_all i keys h)) (no_adds d)
 
 pub emitted_all : (keys : List TypedExpr) (i q : ℕ) (d : Difo) → length keys ≤ i → Adds (keys_code (typeds_of (drop i keys)) q) d d
-emitted_all keys i q d h = subst (λ ks. Adds (keys_code ks q) d d) (sym (dropped keys i h)) (no_adds d)
+emitted_all keys i q d h = subst (λ ks. Adds (keys_code (typeds_of ks) q) d d) (sym (drop_all i keys h)) (no_adds d)
 
 pub lowering_adds : (keys : List TypedExpr) (a d : Reg) (x z : Difo) → 1 ≤ length keys → Adds (one_instr (Mov a d)) x z → Adds (lowering (typeds_of keys) a d) x z
 lowering_adds [] a d x z h u = absurd (omega arith)
@@ -160,10 +145,6 @@ pub saving_adds : (keys : List TypedExpr) (v : Var) (r : ℕ) (d : Reg) (x z : D
 saving_adds [] v r d x z h u = absurd (omega arith)
 saving_adds (k ∷ keys) v r d x z h u = u
 
-pub on_ok : {A E : Type 0} (res : Result A E) (P Q : Type 0) → (P → Q) → OnOk res P → OnOk res Q
-on_ok (Ok x) P Q f h = f h
-on_ok (Err e) P Q f h = tt
-
 -- two operands, and what is made of them
 pub operands_on : {A E : Type 0} (x y : Typed) (r : ℕ) (k : Maker) (res : Result A E) (a b c : Difo) → OnOk res (Adds k b c) → Adds (both (code_of x r) (code_of y (r + 1))) a b
     → OnOk res (Adds (both (code_of x r) (both (code_of y (r + 1)) k)) a c)
@@ -176,13 +157,6 @@ counted (x ∷ keys) = let e = counted keys in omega arith
 
 pub keys_need : (keys : Typeds) → count keys ≤ need_of_keys 0 keys
 keys_need keys = let n = count_fits keys 0 (need_of_keys 0 keys) (omega arith) (omega arith) in omega arith
-
-pub key_there : (keys : List TypedExpr) (i : ℕ) (x : TypedExpr) → i < length keys → x ≡ get_or keys i x → slice_get keys i ≡ Some x
-key_there keys i x less e = slice_get_read keys (length keys) i x refl less e
-
--- an operator under its name
-pub logic_adds : (o o' : LogicOperator) (x y : Typed) (r : ℕ) (a z : Difo) → o ≡ o' → Adds (code_of (Logic o' x y) r) a z → Adds (code_of (Logic o x y) r) a z
-logic_adds o o' x y r a z e h = subst (λ o. Adds (code_of (Logic o x y) r) a z) (sym e) h
 
 -- the whole object
 pub record IsObject (e : Typed) (d : Difo) : Type 0 where

@@ -92,15 +92,12 @@ program_exits m cs functions is = clauses_exit (slots_of m) cs m.clauses is.do_t
 
 -- ---- as they lie in memory
 
-code_alike : (cs : List CompiledClause) → list_any (λ c. list_any (λ a. is_exit (action_code a)) c.actions.items) cs ≡ code_exits cs
-code_alike [] = refl
-code_alike (c ∷ cs) =
+pub written_exits : (cs : List CompiledClause) → list_any (λ c. list_any (λ a. is_exit (action_code a)) c.actions.items) cs ≡ code_exits cs
+written_exits [] = refl
+written_exits (c ∷ cs) =
     ap (λ b. b || list_any (λ c. list_any (λ a. is_exit (action_code a)) c.actions.items) cs) (here c.actions.items)
-    ∙ ap (λ b. list_any (λ a. is_exit a) (clause_code c).actions || b) (code_alike cs)
+    ∙ ap (λ b. list_any (λ a. is_exit a) (clause_code c).actions || b) (written_exits cs)
   where
     here : (xs : List program.Action) → list_any (λ a. is_exit (action_code a)) xs ≡ list_any (λ a. is_exit a) (map action_code xs)
     here [] = refl
     here (x ∷ xs) = ap (λ b. is_exit (action_code x) || b) (here xs)
-
-pub written_exits : (cs : List CompiledClause) → list_any (λ c. list_any (λ a. is_exit (action_code a)) c.actions.items) cs ≡ code_exits cs
-written_exits cs = code_alike cs

@@ -35,7 +35,7 @@ use Rattle.dif_codegen.specs.Steps.Code.{lowering}
 use Rattle.dif_codegen.specs.Steps.Pieces.{Place, Maker, one_instr, both, past}
 use Rattle.dif_codegen.proofs.Leading.{Ready, Done, Usable, done_value, step, Leads, put_leads}
 use Rattle.dif_codegen.proofs.Leading.{keep_leads, none_leads}
-use Rattle.dif_codegen.proofs.Meaning.{kept_kind, stored_kind, on_kind_is, loads, stores}
+use Rattle.dif_codegen.proofs.Meaning.{kept_kind, on_kind_is, loads, stores}
 use Rattle.dif_codegen.proofs.Standing.{Stands, stands_front, stands_back, at_is}
 
 -- the values of keys are in this register and those after it
@@ -60,17 +60,11 @@ pub record Keyed (keys : Typeds) (r pc : ℕ) (s t : Frame) (key : List KeyPart)
 pub ready_keyed : (keys : Typeds) (r pc : ℕ) (s t : Frame) (key : List KeyPart) → 0 < r → Ready s → Keyed keys r pc s t key → Ready t
 ready_keyed keys r pc s t key low h d = record { long = d.long; zero_is = d.kept 0 low ∙ h.zero_is; empty = d.tuple ∙ h.empty }
 
-on_key_is : (key parts : List KeyPart) (p : KeyPart) (next : st.Next) → key ≡ p ∷ parts → st.on_key key next ≡ next
-on_key_is key parts p next e = ap (λ k. st.on_key k next) e
-
 module _ (o : Object) (f : Firing) where
   -- whatever the run comes to from where the keys are there, it comes to from here
   abbrev pub KeysLead : Typeds → ℕ → ℕ → Frame → Variables → Outcome (List KeyPart) → Type 0
   KeysLead keys r pc s vars (Faults w) = Reaches o f s vars (Divides w)
   KeysLead keys r pc s vars (Has key w) = (end : End) → ((t : Frame) → Keyed keys r pc s t key → Reaches o f t w end) → Reaches o f s vars end
-
-  pub keys_end : (keys : Typeds) (r pc pc' : ℕ) (s : Frame) (vars : Variables) (z : Outcome (List KeyPart)) → pc ≡ pc' → KeysLead keys r pc s vars z → KeysLead keys r pc' s vars z
-  keys_end keys r pc pc' s vars z e h = subst (λ n. KeysLead keys r n s vars z) e h
 
   join_keyed : (a : Typed) (rest : Typeds) (r pc1 pc2 : ℕ) (s t u : Frame) (x : Value) (key : List KeyPart) → IsOf (type_of a) x → Done r pc1 s t x → Keyed rest (r + 1) pc2 t u key → Keyed (more a rest) r pc2 s u (part_of x ∷ key)
   join_keyed a rest r pc1 pc2 s t u x key is d k = record {
@@ -172,7 +166,7 @@ module _ (o : Object) (f : Firing) where
       let d = done_value t1 q v u long in
       let read : st.act i o f t1 vars ≡ st.puts t1 (register q) v vars =
       ap (λ l. st.on_key l (st.puts t1 (register q) (machine.own_value vars x l) vars)) tup
-      ∙ on_key_is key there.1 (part_of there.0) (st.puts t1 (register q) (machine.own_value vars x key) vars) there.4
+      ∙ ap (λ k. st.on_key k (st.puts t1 (register q) (machine.own_value vars x key) vars)) there.4
       ∙ ap (λ v. st.puts t1 (register q) v vars) (kept_kind t v is) in
       goes t2 vars (step o f t1 vars pl1.at i index after.code.0 ∙ read)
       (goes t3 vars (step o f t2 vars (pl1.at + 1) Flushts n1 after.code.1.0)
@@ -205,10 +199,10 @@ module _ (o : Object) (f : Firing) where
       let n2 : t1.pc + 1 + 1 ≡ pl.at + length (element_code (more k ks) r i pl).code = omega arith in
       let wrote : st.act i o f t1 vars ≡ st.Goes t2 new =
       ap (λ l. st.on_key l (st.on_kind (kind_of_type t) (at t1.registers (register q)) (st.store_own t1 vars x l))) tup
-      ∙ on_key_is key there.1 (part_of there.0) (st.on_kind (kind_of_type t) (at t1.registers (register q)) (st.store_own t1 vars x key)) there.4
+      ∙ ap (λ k. st.on_key k (st.on_kind (kind_of_type t) (at t1.registers (register q)) (st.store_own t1 vars x key))) there.4
       ∙ ap (λ y. st.on_kind (kind_of_type t) y (st.store_own t1 vars x key)) (at_is t1.registers q le ∙ ap (λ xs. slice_index_or xs q None) same ∙ val)
       ∙ on_kind_is t v (st.store_own t1 vars x key) is
-      ∙ ap (λ y. st.store_own t1 vars x key y) (sym (stored_kind t v is)) in
+      ∙ ap (λ y. st.store_own t1 vars x key y) (sym (kept_kind t v is)) in
       goes t2 new (step o f t1 vars pl1.at i index after.code.0 ∙ wrote)
       (goes t3 new (step o f t2 new (pl1.at + 1) Flushts n1 after.code.1.0)
       (c t3 (record { at = n2; value = ap (λ xs. slice_index_or xs q None) same ∙ val; kept = λ k less. ap (λ xs. slice_index_or xs k None) same; long = ap length same ∙ ready.long; tuple = sym ready.empty }))))

@@ -1,8 +1,9 @@
 -- Lists that are compiled one by one.
-use Rattle.std.specs.Prelude.{◌≡◌, ◌<◌, ◌≤◌, ℕ, zero, suc, ◌+◌, List, [], ◌∷◌, ◌++◌, All, length}
+use Rattle.std.specs.Prelude.{◌≡◌, ◌<◌, ◌≤◌, ℕ, suc, ◌+◌, List, [], ◌∷◌, ◌++◌, All, length}
 use Rattle.std.specs.Prelude.{map, drop, get_or, Option, Some, None}
 use Rattle.std.specs.List.{AllZip}
 use Rattle.std.proofs.Common.{refl, sym, ap, ◌∙◌, subst, arith, append_assoc, append-nil}
+use Rattle.std.proofs.lemmas.List.{drop_all, map-append}
 use Rattle.aggregations.specs.declared.function.AggFn.{AggFn}
 use Rattle.d_types.specs.declared.typed.TypedAggregation.{TypedAggregation}
 use Rattle.d_types.specs.declared.typed.TypedClause.{TypedClause}
@@ -36,16 +37,6 @@ use Rattle.dif_codegen.specs.Steps.Programs.{compiled_action, compiled_clause, o
 use Rattle.dif_codegen.proofs.Adding.{IsObject}
 use Rattle.dif_codegen.proofs.Compiled.{computes, is_returning}
 use Rattle.dif_codegen.proofs.SameMeaning.{run_same}
-
-spent : {A : Type 0} (xs : List A) (n : ℕ) → length xs ≤ n → drop n xs ≡ []
-spent [] zero past = refl
-spent [] (suc n) past = refl
-spent (x ∷ xs) zero past = absurd (omega arith)
-spent (x ∷ xs) (suc n) past = spent xs n (omega arith)
-
-map-append : {A B : Type 0} (g : A → B) (xs ys : List A) → map g (xs ++ ys) ≡ map g xs ++ map g ys
-map-append g [] ys = refl
-map-append g (x ∷ xs) ys = ap (λ l. g x ∷ l) (map-append g xs ys)
 
 -- ---- what stands in place of expressions
 
@@ -133,7 +124,7 @@ compiled_on all n e done less same h =
 
 pub compiled_end : (all : List TypedExpr) (n : ℕ) (done : List TypedObject) → length all ≤ n → done ++ compiled_objects (typeds_of (drop n all)) ≡ compiled_objects (typeds_of all)
     → done ≡ compiled_objects (typeds_of all)
-compiled_end all n done past h = sym (append-nil done) ∙ ap (λ l. done ++ compiled_objects (typeds_of l)) (sym (spent all n past)) ∙ h
+compiled_end all n done past h = sym (append-nil done) ∙ ap (λ l. done ++ compiled_objects (typeds_of l)) (sym (drop_all n all past)) ∙ h
 
 -- a list that was mapped one by one
 pub mapped_on : {A B C : Type 0} (g : A → C) (h : B → C) (all : List B) (n : ℕ) (x : B) (y : A) (done : List A) → n < length all → x ≡ get_or all n x → g y ≡ h x
@@ -146,7 +137,7 @@ mapped_on g h all n x y done less same is e =
     ∙ e
 
 pub mapped_end : {A B C : Type 0} (g : A → C) (h : B → C) (all : List B) (n : ℕ) (done : List A) → length all ≤ n → map g done ++ map h (drop n all) ≡ map h all → map g done ≡ map h all
-mapped_end g h all n done past e = sym (append-nil (map g done)) ∙ ap (λ l. map g done ++ map h l) (sym (spent all n past)) ∙ e
+mapped_end g h all n done past e = sym (append-nil (map g done)) ∙ ap (λ l. map g done ++ map h l) (sym (drop_all n all past)) ∙ e
 
 pub map-map : {A B C : Type 0} (g : A → B) (h : B → C) (xs : List A) → map (λ x. h (g x)) xs ≡ map h (map g xs)
 map-map g h [] = refl

@@ -1,24 +1,25 @@
 -- What the machine's instructions make is what the language's operators make.
 use Rattle.std.specs.Prelude.{◌≡◌, ◌<◌, ℕ, zero, suc, ◌+◌, ◌-◌, ◌%◌, ◌^◌, bit_and, ◌==◌, ◌&&◌, Bool}
-use Rattle.std.specs.Prelude.{true, false, List, [], ◌∷◌, Some, Ok, Err, ℤ, pos, negsuc, slice_get}
+use Rattle.std.specs.Prelude.{true, false, List, [], ◌∷◌, Some, Ok, Err, ℤ, pos, slice_get}
 use Rattle.std.specs.Prelude.{get_or, nat_lt, nat_le}
+use Rattle.std.specs.Cmp.{nat_cmp_is}
 use Rattle.std.specs.Int.{cast_signed, cast_unsigned, w64}
 use Rattle.std.specs.Ordering.{nat_cmp, int_cmp, int_eq, is_eq}
 use Rattle.std.specs.declared.cmp.Ordering.{Ordering}
 use Rattle.std.specs.declared.cmp.Ordering.TheVariants as ord
 use Rattle.std.proofs.Common.{refl, sym, ap, ◌∙◌, subst, ⊎_elim, arith, cond}
-use Rattle.std.proofs.lemmas.Bool.{cases_eq, ne_eqb, eq-eqb, le-ltb}
+use Rattle.std.proofs.Math.Nat.{mod-eq_of_lt}
+use Rattle.std.proofs.lemmas.Bool.{cases_eq, ne_eqb, false_from_ne_true}
 use Rattle.std.proofs.lemmas.Bool.Decides.{Decides-int_eq}
 use Rattle.std.proofs.lemmas.Int.{of_z-to_z}
 use Rattle.std.proofs.lemmas.Nat.{and_mask, mod_below, pow_pos}
 use Rattle.d_parser.specs.declared.operators.Step.{Step}
 use Rattle.d_parser.specs.declared.operators.Step.TheVariants as sp1
-use Rattle.d_values.specs.Numbers.{bits_of}
 use Rattle.d_values.specs.Operators.{holds_of}
 use Rattle.d_values.specs.Types.{INT64, UINT64}
 use Rattle.d_values.specs.Texts.{text_cmp}
 use Rattle.d_values.specs.Widths.{is_width}
-use Rattle.d_values.specs.Words.{narrow, operate, divides, order_of, shift_of, shift_result}
+use Rattle.d_values.specs.Words.{narrow, operate, divides, shift_of, shift_result}
 use Rattle.d_values.specs.declared.operators.ShiftOperator.{ShiftOperator}
 use Rattle.d_values.specs.declared.operators.ShiftOperator.TheVariants as sh
 use Rattle.d_values.specs.declared.int_type.IntType.{IntType}
@@ -43,6 +44,7 @@ use Rattle.dif_validate.specs.declared.instruction.Condition.TheVariants.{Equal,
 use Rattle.dif_validate.specs.declared.register.Reg.{Reg}
 use Rattle.dif_validate.specs.Objects.{Object}
 use Rattle.dif_validate.specs.Registers.{at}
+use Rattle.dif_machine.proofs.Numbers.{bits_small}
 use Rattle.dif_machine.specs.Frames.{Frame}
 use Rattle.dif_machine.specs.Frames.{at_index}
 use Rattle.dif_machine.specs.Operators.{result_of, comparison_of, text_comparison_of, holds}
@@ -54,10 +56,6 @@ use Rattle.dif_codegen.proofs.Words.{signed_again, unsigned_again, signed_small,
 use Rattle.dif_codegen.proofs.Words.{widths, bits}
 
 -- ---- operators
-
-pub bits_small : (z : ℤ) → bits_of z < 2 ^ 64
-bits_small (pos n) = omega arith
-bits_small (negsuc n) = omega arith
 
 -- the machine's result: none where the language has none, else a word that is the same once it is brought to the type
 pub record Works (o : ArithmeticOperator) (t : IntType) (x y : ℕ) : Type 0 where
@@ -142,10 +140,7 @@ shifts_as sh.Right t x y = by t.signed refl
 -- ---- comparisons
 
 zero_compared : (n : ℕ) → nat_cmp (suc n) 0 ≡ ord.Greater
-zero_compared n =
-    let ne : suc n ≡ 0 → ⊥ = omega arith in
-    let le : nat_lt (suc n) 0 ≡ false = le-ltb (suc n) 0 (omega arith) in
-    ap (λ b. cond b ord.Less (cond (suc n == 0) ord.Equal ord.Greater)) le ∙ ap (λ b. cond b ord.Equal ord.Greater) (ne_eqb (suc n) 0 ne)
+zero_compared n = let more : 0 < suc n = omega arith in sym (nat_cmp_is (suc n) 0 ord.Greater more)
 
 equal_is : (r : Ordering) → holds_of co.Equal r ≡ is_eq r
 equal_is ord.Less = refl
@@ -161,13 +156,8 @@ either_not : (b : Bool) → is_eq (cond b ord.Less ord.Greater) ≡ false
 either_not true = refl
 either_not false = refl
 
-not_true : (b : Bool) → (b ≡ true → ⊥) → b ≡ false
-not_true true h = absurd (h refl)
-not_true false h = refl
-
 nat_equal : (x : ℕ) → is_eq (nat_cmp x x) ≡ true
-nat_equal x =
-    ap (λ b. is_eq (cond b ord.Less (cond (x == x) ord.Equal ord.Greater))) (le-ltb x x (omega arith)) ∙ ap (λ b. is_eq (cond b ord.Equal ord.Greater)) (eq-eqb x x refl)
+nat_equal x = ap is_eq (sym (nat_cmp_is x x ord.Equal refl))
 
 nat_unequal : (x y : ℕ) → (x ≡ y → ⊥) → is_eq (nat_cmp x y) ≡ false
 nat_unequal x y ne = ap (λ b. is_eq (cond (nat_lt x y) ord.Less (cond b ord.Equal ord.Greater))) (ne_eqb x y ne) ∙ either_not (nat_lt x y)
@@ -180,26 +170,23 @@ equally : (x y : ℕ) → x < 2 ^ 64 → y < 2 ^ 64 → is_eq (nat_cmp x y) ≡ 
 equally x y sx sy =
     ⊎_elim
     (λ (e : x ≡ y). subst (λ z. is_eq (nat_cmp x z) ≡ int_eq (cast_signed w64 x) (cast_signed w64 z)) e (nat_equal x ∙ sym ((Decides-int_eq (cast_signed w64 x) (cast_signed w64 x)).1 refl)))
-    (λ (ne : x ≡ y → ⊥). nat_unequal x y ne ∙ sym (not_true (int_eq (cast_signed w64 x) (cast_signed w64 y)) (λ h. ne (same_word x y sx sy ((Decides-int_eq (cast_signed w64 x) (cast_signed w64 y)).0 h)))))
+    (λ (ne : x ≡ y → ⊥). nat_unequal x y ne ∙ sym (false_from_ne_true (int_eq (cast_signed w64 x) (cast_signed w64 y)) (λ h. ne (same_word x y sx sy ((Decides-int_eq (cast_signed w64 x) (cast_signed w64 y)).0 h)))))
     (cases_eq x y)
 
-conditions : (o : ComparisonOperator) (s : Bool) (x y : ℕ) → x < 2 ^ 64 → y < 2 ^ 64 → holds (condition_of o s) (comparison_of x y) ≡ holds_of o (cond s (int_cmp (cast_signed w64 x) (cast_signed w64 y)) (nat_cmp x y))
-conditions co.Less true x y sx sy = refl
-conditions co.Less false x y sx sy = refl
-conditions co.LessEqual true x y sx sy = refl
-conditions co.LessEqual false x y sx sy = refl
-conditions co.Greater true x y sx sy = refl
-conditions co.Greater false x y sx sy = refl
-conditions co.GreaterEqual true x y sx sy = refl
-conditions co.GreaterEqual false x y sx sy = refl
-conditions co.Equal false x y sx sy = refl
-conditions co.Equal true x y sx sy = equal_is (nat_cmp x y) ∙ equally x y sx sy ∙ sym (equal_is (int_cmp (cast_signed w64 x) (cast_signed w64 y)))
-conditions co.NotEqual false x y sx sy = refl
-conditions co.NotEqual true x y sx sy = unequal_is (nat_cmp x y) ∙ ap (λ b. cond b false true) (equally x y sx sy) ∙ sym (unequal_is (int_cmp (cast_signed w64 x) (cast_signed w64 y)))
-
 -- a branch asks what the language's comparison asks
-pub condition_is : (o : ComparisonOperator) (t : IntType) (x y : ℕ) → x < 2 ^ 64 → y < 2 ^ 64 → holds (condition_of o t.signed) (comparison_of x y) ≡ holds_of o (order_of t x y)
-condition_is o t x y sx sy = conditions o t.signed x y sx sy
+pub condition_is : (o : ComparisonOperator) (s : Bool) (x y : ℕ) → x < 2 ^ 64 → y < 2 ^ 64 → holds (condition_of o s) (comparison_of x y) ≡ holds_of o (cond s (int_cmp (cast_signed w64 x) (cast_signed w64 y)) (nat_cmp x y))
+condition_is co.Less true x y sx sy = refl
+condition_is co.Less false x y sx sy = refl
+condition_is co.LessEqual true x y sx sy = refl
+condition_is co.LessEqual false x y sx sy = refl
+condition_is co.Greater true x y sx sy = refl
+condition_is co.Greater false x y sx sy = refl
+condition_is co.GreaterEqual true x y sx sy = refl
+condition_is co.GreaterEqual false x y sx sy = refl
+condition_is co.Equal false x y sx sy = refl
+condition_is co.Equal true x y sx sy = equal_is (nat_cmp x y) ∙ equally x y sx sy ∙ sym (equal_is (int_cmp (cast_signed w64 x) (cast_signed w64 y)))
+condition_is co.NotEqual false x y sx sy = refl
+condition_is co.NotEqual true x y sx sy = unequal_is (nat_cmp x y) ∙ ap (λ b. cond b false true) (equally x y sx sy) ∙ sym (unequal_is (int_cmp (cast_signed w64 x) (cast_signed w64 y)))
 
 -- and so for texts
 pub texts_condition : (o : ComparisonOperator) (x y : List ℕ) → holds (condition_of o false) (text_comparison_of x y) ≡ holds_of o (text_cmp x y)
@@ -246,12 +233,6 @@ kept_kind (ty.Int t) (Text bytes) is = absurd is
 kept_kind ty.Text (Int word) is = absurd is
 kept_kind ty.Text (Text bytes) is = refl
 
-pub stored_kind : (t : DType) (v : Value) → IsOf t v → storage.as_kind (kind_of_type t) v ≡ v
-stored_kind (ty.Int t) (Int word) is = refl
-stored_kind (ty.Int t) (Text bytes) is = absurd is
-stored_kind ty.Text (Int word) is = absurd is
-stored_kind ty.Text (Text bytes) is = refl
-
 pub on_kind_is : (t : DType) (v : Value) (go : Value → st.Next) → IsOf t v → st.on_kind (kind_of_type t) (Some v) go ≡ go v
 on_kind_is (ty.Int t) (Int word) go is = refl
 on_kind_is (ty.Int t) (Text bytes) go is = absurd is
@@ -268,11 +249,11 @@ pub stores : (w : Space) (slot : ℕ) (t : DType) (a : Reg) (o : Object) (f : Fi
 stores sp.Thread slot t a o f s vars v is has =
     ap (λ x. st.on_kind (kind_of_type t) x (st.store_own s vars (record { slot = slot; kind = kind_of_type t }) [])) has
     ∙ on_kind_is t v (st.store_own s vars (record { slot = slot; kind = kind_of_type t }) []) is
-    ∙ ap (λ x. st.store_own s vars (record { slot = slot; kind = kind_of_type t }) [] x) (sym (stored_kind t v is))
+    ∙ ap (λ x. st.store_own s vars (record { slot = slot; kind = kind_of_type t }) [] x) (sym (kept_kind t v is))
 stores sp.Clause slot t a o f s vars v is has =
     ap (λ x. st.on_kind (kind_of_type t) x (st.store_local s vars (record { slot = slot; kind = kind_of_type t }))) has
     ∙ on_kind_is t v (st.store_local s vars (record { slot = slot; kind = kind_of_type t })) is
-    ∙ ap (λ x. st.store_local s vars (record { slot = slot; kind = kind_of_type t }) x) (sym (stored_kind t v is))
+    ∙ ap (λ x. st.store_local s vars (record { slot = slot; kind = kind_of_type t }) x) (sym (kept_kind t v is))
 
 -- ---- steps by one
 
@@ -288,17 +269,9 @@ low_kept signed w low known less = by (signed && nat_le (2 ^ (w - 1)) low)
         (λ (e : w ≡ 64). let l : low < 2 ^ 64 = subst (λ w. low < 2 ^ w) e less in subst (λ w. (low + (2 ^ 64 - 2 ^ w)) % 2 ^ w ≡ low) (sym e) (omega arith))))
         (widths w known)
 
-    less_is : low % 2 ^ w ≡ low
-    less_is =
-        ⊎_elim (λ (e : w ≡ 8). let l : low < 2 ^ 8 = subst (λ w. low < 2 ^ w) e less in subst (λ w. low % 2 ^ w ≡ low) (sym e) (omega arith))
-        (⊎_elim (λ (e : w ≡ 16). let l : low < 2 ^ 16 = subst (λ w. low < 2 ^ w) e less in subst (λ w. low % 2 ^ w ≡ low) (sym e) (omega arith))
-        (⊎_elim (λ (e : w ≡ 32). let l : low < 2 ^ 32 = subst (λ w. low < 2 ^ w) e less in subst (λ w. low % 2 ^ w ≡ low) (sym e) (omega arith))
-        (λ (e : w ≡ 64). let l : low < 2 ^ 64 = subst (λ w. low < 2 ^ w) e less in subst (λ w. low % 2 ^ w ≡ low) (sym e) (omega arith))))
-        (widths w known)
-
     by : (b : Bool) → cond b (low + (2 ^ 64 - 2 ^ w)) low % 2 ^ w ≡ low
     by true = more
-    by false = less_is
+    by false = mod-eq_of_lt less
 
 -- there and back, of the lowest bits
 returned : (step : Step) (w old n : ℕ) → is_width w ≡ true → n % 2 ^ w ≡ step_result step old % 2 ^ w → step_result (opposite step) n % 2 ^ w ≡ old % 2 ^ w

@@ -75,7 +75,7 @@ use Rattle.dif_codegen.proofs.Leading.{bit_leads}
 use Rattle.dif_codegen.proofs.Meaning.{works, masked, shifts_as, texts_condition, is_zero}
 use Rattle.dif_codegen.proofs.Meaning.{is_positive, zero_holds, positive_holds, condition_is}
 use Rattle.dif_codegen.proofs.Meaning.{word_small, argument_is, step_is, stepped_back}
-use Rattle.dif_codegen.proofs.Keyed.{AreThere, there_kept, ready_keyed, KeysLead, keys_end}
+use Rattle.dif_codegen.proofs.Keyed.{AreThere, there_kept, ready_keyed, KeysLead}
 use Rattle.dif_codegen.proofs.Keyed.{keys_first, keys_both, fetching_leads, saving_leads}
 use Rattle.dif_codegen.proofs.Keyed.{lowering_leads}
 use Rattle.dif_codegen.proofs.Narrowing.{narrow_leads}
@@ -415,7 +415,7 @@ module _ (o : Object) (f : Firing) where
           truth_leads r _ t2 vars2 (holds_of o' (order_of t x y))
           (bit_leads o f r pl2 test (condition_of o' t.signed) t2 vars2 (comparison_of x y) (holds_of o' (order_of t x y)) (record { low = low; high = omega arith }) d2.long d2.at st2
           (rw (at_is t2.registers r (omega arith), d2.kept r (omega arith), d.value, at_is t2.registers (r + 1) (omega (arith, need_pos b)), d2.value) refl)
-          (condition_is o' t x y (word_small t x is) (word_small t y is')))))
+          (condition_is o' t.signed x y (word_small t x is) (word_small t y is')))))
       expr_leads (Operate (op.Shift o' t) a b) c r pl s vars good low high ready e stands =
           let last = operate_on (op.Shift o' t) (register r) (register (r + 1)) in
           both_number o f slots r r pl (code_of a r) (both (code_of b (r + 1)) last) s vars (type_of a) t (eval f a vars) (λ x vars. with (number_outcome (eval f b vars)) (λ y vars. integer (word_or_fault (operation_of (op.Shift o' t) x y) vars))) (omega arith) c.0.0 (eval_is slots f fit a vars c.1 good) stands
@@ -608,7 +608,7 @@ module _ (o : Object) (f : Firing) where
           let pl1 = past pl p in
           let q = keys_code rest (r + 1) pl1 in
           let size : pl1.at + length q.code ≡ pl.at + length (p.code ++ q.code) = omega (arith, length-append p.code q.code) in
-          keys_end o f (more a rest) r (pl1.at + length q.code) (pl.at + length (p.code ++ q.code)) s vars (keys_of f (more a rest) vars) size
+          subst (λ n. KeysLead o f (more a rest) r n s vars (keys_of f (more a rest) vars)) size
           (keys_first o f slots a rest r pl1.at (pl1.at + length q.code) s vars (eval f a vars) (keys_of f rest)
           (expr_leads a c.0 r pl s vars good low (omega arith) ready e (stands_front o pl p q stands)) (eval_is slots f fit a vars c.0 good)
           (λ x w t well d. keys_lead rest c.1 base (n + 1) (r + 1) pl1 t w (omega arith) well (omega arith) (omega arith) (ready_on r _ s t x low ready d) d.at (stands_back o pl p q stands)))

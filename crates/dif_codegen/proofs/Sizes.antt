@@ -1,5 +1,5 @@
 -- How large a tree is, counted so that it grows with each function on the way to its parts.
-use Rattle.std.specs.Prelude.{◌≡◌, ◌≤◌, ◌<◌, ℕ, zero, suc, ◌+◌, List, [], ◌∷◌, Some, slice_get}
+use Rattle.std.specs.Prelude.{◌≡◌, ◌≤◌, ◌<◌, ℕ, ◌+◌, List}
 use Rattle.std.proofs.Common.{ap, subst, arith, Vec, Global}
 use Rattle.d_parser.specs.declared.operators.Step.{Step}
 use Rattle.d_types.specs.declared.typed.Answer.{Answer}
@@ -36,15 +36,6 @@ abbrev mutual
   pub sizes : Typeds → ℕ
   sizes end = 0
   sizes (more a rest) = 1 + size a + sizes rest
-
-pub key_size : (keys : List TypedExpr) (i : ℕ) (x : TypedExpr) → slice_get keys i ≡ Some x → size (typed_of x) < sizes (typeds_of keys)
-key_size [] zero x h = cc
-key_size [] (suc i) x h = cc
-key_size (y ∷ keys) zero x h =
-    let e : y ≡ x = cc in
-    let same = ap (λ y. size (typed_of y)) e in
-    omega arith
-key_size (y ∷ keys) (suc i) x h = let less = key_size keys i x h in omega arith
 
 -- ---- what an expression with keys hands to its own function: a smaller tree, and registers enough
 

@@ -1,13 +1,13 @@
-use Rattle.std.proofs.Common.{sym, subst, arith, ◌∙◌, ◌≡◌, ◌≤◌, ◌+◌, drop, max}
+use Rattle.std.proofs.Common.{sym, ap, subst, arith, ◌∙◌, ◌≡◌, ◌≤◌, ◌+◌, drop, max}
+use Rattle.std.proofs.lemmas.Result.{on_ok_weaker}
 use Rattle.d_types.specs.Needs.{need, need_of_keys}
 use Rattle.d_types.specs.Typed.{typed_of, typeds_of}
+use Rattle.d_types.proofs.Tables.{front}
 use Rattle.d_types.proofs.Nodes.{read_is, assign_is, update_is, step_is}
 use Rattle.dif_codegen.specs.Steps.Code.{differing, keys_code}
 use Rattle.dif_codegen.specs.Steps.Drafts.{Adds}
-use Rattle.d_parser.specs.declared.operators.LogicOperator.TheVariants.{And, Or, Xor}
 use Rattle.d_values.specs.declared.int_type.DType.TheVariants.{Text}
-use Rattle.dif_codegen.proofs.Adding.{both_adds, choice_adds, emitted_all, key_there, logic_adds}
-use Rattle.dif_codegen.proofs.Adding.{next_key, on_ok, operands_on}
+use Rattle.dif_codegen.proofs.Adding.{both_adds, choice_adds, emitted_all, operands_on}
 use Rattle.dif_codegen.proofs.Sizes.{assign_calls, read_calls, step_calls, update_calls}
 use Rattle.dif_codegen.proofs.emitting.+emission.Goals as goal
 
@@ -75,15 +75,11 @@ emit_choice-returns t c = λ type.
 
 pub emit_logic-returns-in-And : goal.emit_logic-returns-in-And
 emit_logic-returns-in-And t c =
-    on_ok c.emit_and.result _ _
-    (λ h. logic_adds c.args.op And (typed_of c.args.a.now) (typed_of c.args.b.now) c.args.r c.args.draft.now c.emit_and.new.draft c.in-And.is h)
-    c.emit_and.ensures
+    rw c.in-And.is c.emit_and.ensures
 
 pub emit_logic-returns-in-Or : goal.emit_logic-returns-in-Or
 emit_logic-returns-in-Or t c =
-    on_ok c.emit_or.result _ _
-    (λ h. logic_adds c.args.op Or (typed_of c.args.a.now) (typed_of c.args.b.now) c.args.r c.args.draft.now c.emit_or.new.draft c.in-Or.is h)
-    c.emit_or.ensures
+    rw c.in-Or.is c.emit_or.ensures
 
 pub emit_and-returns : goal.emit_and-returns
 emit_and-returns t c =
@@ -101,14 +97,12 @@ emit_or-returns t c =
 
 pub emit_logic-returns-in_ok-emit_operands-in-Xor : goal.emit_logic-returns-in_ok-emit_operands-in-Xor
 emit_logic-returns-in_ok-emit_operands-in-Xor t c =
-    on_ok c.put_differing.result _ _
-    (λ h. logic_adds c.args.op Xor (typed_of c.args.a.now) (typed_of c.args.b.now) c.args.r c.args.draft.now c.put_differing.new.draft c.in-Xor.is h)
-    (rw (← c.register-d.ensures, ← c.register.ensures)
-    (operands_on (typed_of c.args.a.now) (typed_of c.args.b.now) c.args.r (differing c.register-d.result c.register.result) c.put_differing.result _ _ _ c.put_differing.ensures c.in_ok-emit_operands-in-Xor.ensures))
+    rw (c.in-Xor.is, ← c.register-d.ensures, ← c.register.ensures)
+    (operands_on (typed_of c.args.a.now) (typed_of c.args.b.now) c.args.r (differing c.register-d.result c.register.result) c.put_differing.result _ _ _ c.put_differing.ensures c.in_ok-emit_operands-in-Xor.ensures)
 
 pub emit_keys-loop-key-preserved : goal.emit_keys-loop-key-preserved
 emit_keys-loop-key-preserved t c =
-    let e = next_key c.args.keys.now c.loop-key.key-index c.key-item.result (key_there _ _ _ c.loop-key-test.true c.key-item.is) in
+    let e = ap typeds_of (front c.args.keys.now c.loop-key.key-index c.key-item.result c.loop-key-test.true c.key-item.is) in
     let rest = typeds_of (drop (c.loop-key.key-index + 1) c.args.keys.now) in
     let few : c.args.r + max (c.loop-key.key-index + need (typed_of c.key-item.result)) (need_of_keys (c.loop-key.key-index + 1) rest) ≤ 7 =
     subst (λ ks. c.args.r + need_of_keys c.loop-key.key-index ks ≤ 7) e c.loop-key.invariant.1 in
@@ -121,7 +115,7 @@ emit_keys-loop-key-preserved t c =
 pub emit_step-returns : goal.emit_step-returns
 emit_step-returns t c =
     rw (← c.after.ensures, ← c.register-d.ensures, ← c.register.ensures)
-    (on_ok c.lower.result _ _
+    (on_ok_weaker c.lower.result
     (λ h. both_adds _ _ _ _ _ c.in_ok-emit_keys.ensures (both_adds _ _ _ _ _ c.in_ok-fetch.ensures (both_adds _ _ _ _ _ c.in_ok-put_step.ensures
     (both_adds _ _ _ _ _ c.in_ok-save.ensures (both_adds _ _ _ _ _ c.in_ok-put_answer.ensures h)))))
     c.lower.ensures)
@@ -129,7 +123,7 @@ emit_step-returns t c =
 pub emit_update-returns : goal.emit_update-returns
 emit_update-returns t c =
     rw (← c.after-q.ensures, ← c.register-d.ensures, ← c.register.ensures, ← c.register-2.ensures, ← c.works_in.ensures)
-    (on_ok c.lower.result _ _
+    (on_ok_weaker c.lower.result
     (λ h. both_adds _ _ _ _ _ c.in_ok-emit_keys.ensures (both_adds _ _ _ _ _ c.in_ok-fetch.ensures (both_adds _ _ _ _ _ c.in_ok-narrow.ensures
     (both_adds _ _ _ _ _ c.in_ok-emit.ensures (both_adds _ _ _ _ _ c.in_ok-operate.ensures (both_adds _ _ _ _ _ c.in_ok-hold.ensures
     (both_adds _ _ _ _ _ c.in_ok-save.ensures h)))))))
