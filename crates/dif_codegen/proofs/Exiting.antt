@@ -22,37 +22,18 @@ aggregation_of (Aggregate index keys argument) = Some index
 
 module _ (slots : Slots) where
   action_exits : (x : ActionCode) (a : Action) → IsActionOf slots x a → is_exit x ≡ is_exit a
-  action_exits (Evaluate x) (Evaluate e) h = refl
-  action_exits (Trace t x) (Trace u e) h = refl
-  action_exits (Print format types xs) (Print written given es) h = refl
   action_exits (Exit x) (Exit e) h = refl
-  action_exits (Aggregate index xs x) (Aggregate n es e) h = refl
-  action_exits (Evaluate x) (Trace u e) h = absurd h
-  action_exits (Evaluate x) (Print written given es) h = absurd h
-  action_exits (Evaluate x) (Exit e) h = absurd h
-  action_exits (Evaluate x) (Aggregate n es e) h = absurd h
-  action_exits (Trace t x) (Evaluate e) h = absurd h
-  action_exits (Trace t x) (Print written given es) h = absurd h
-  action_exits (Trace t x) (Exit e) h = absurd h
-  action_exits (Trace t x) (Aggregate n es e) h = absurd h
-  action_exits (Print format types xs) (Evaluate e) h = absurd h
-  action_exits (Print format types xs) (Trace u e) h = absurd h
-  action_exits (Print format types xs) (Exit e) h = absurd h
-  action_exits (Print format types xs) (Aggregate n es e) h = absurd h
   action_exits (Exit x) (Evaluate e) h = absurd h
   action_exits (Exit x) (Trace u e) h = absurd h
   action_exits (Exit x) (Print written given es) h = absurd h
   action_exits (Exit x) (Aggregate n es e) h = absurd h
-  action_exits (Aggregate index xs x) (Evaluate e) h = absurd h
-  action_exits (Aggregate index xs x) (Trace u e) h = absurd h
-  action_exits (Aggregate index xs x) (Print written given es) h = absurd h
+  action_exits (Evaluate x) (Exit e) h = absurd h
+  action_exits (Trace t x) (Exit e) h = absurd h
+  action_exits (Print format types xs) (Exit e) h = absurd h
   action_exits (Aggregate index xs x) (Exit e) h = absurd h
+  action_exits x a h = refl
 
   same_aggregation : (x : ActionCode) (a : Action) → IsActionOf slots x a → aggregation_of x ≡ aggregation_of a
-  same_aggregation (Evaluate x) (Evaluate e) h = refl
-  same_aggregation (Trace t x) (Trace u e) h = refl
-  same_aggregation (Print format types xs) (Print written given es) h = refl
-  same_aggregation (Exit x) (Exit e) h = refl
   same_aggregation (Aggregate index xs x) (Aggregate n es e) h = ap Some h.0
   same_aggregation (Aggregate index xs x) (Evaluate e) h = absurd h
   same_aggregation (Aggregate index xs x) (Trace u e) h = absurd h

@@ -222,9 +222,6 @@ module _ (o : Object) where
     no_more : (ks : List Kind) → level (ks ++ []) ≡ level ks
     no_more ks = ap level (append-nil ks)
 
-    numbered : (ks : List Kind) (u : DType) (t : IntType) → u ≡ ty.Int t → level (ks ++ kind_of_type u ∷ []) ≡ level (ks ++ ki.Number ∷ [])
-    numbered ks u t e = ap (λ u. level (ks ++ kind_of_type u ∷ [])) e
-
     two : (ks : List Kind) (j k : Kind) → level ((ks ++ j ∷ []) ++ k ∷ []) ≡ level (ks ++ j ∷ k ∷ [])
     two ks j k = ap level (append_assoc ks (j ∷ []) (k ∷ []))
 
@@ -241,9 +238,6 @@ module _ (o : Object) where
 
     from_none : (ks : List Kind) (pc : ℕ) (code : List Instr) (t : Shape) → Types o pc (level (ks ++ [])) code t → Types o pc (level ks) code t
     from_none ks pc code t h = subst (λ l. Types o pc l code t) (no_more ks) h
-
-    as_number : (u : DType) (t : IntType) → u ≡ ty.Int t → (ks : List Kind) (pc : ℕ) (s : Shape) (code : List Instr) → Types o pc s code (level (ks ++ kind_of_type u ∷ [])) → Types o pc s code (level (ks ++ ki.Number ∷ []))
-    as_number u t e ks pc s code h = subst (Types o pc s code) (numbered ks u t e) h
 
     as_kind : (u v : DType) → u ≡ v → (ks : List Kind) (pc : ℕ) (s : Shape) (code : List Instr) → Types o pc s code (level (ks ++ kind_of_type u ∷ [])) → Types o pc s code (level (ks ++ kind_of_type v ∷ []))
     as_kind u v e ks pc s code h = subst (λ w. Types o pc s code (level (ks ++ kind_of_type w ∷ []))) e h
@@ -480,24 +474,24 @@ module _ (o : Object) where
       expr_makes (Unary un.Not t a) c ks pl few stands =
           let n = need_pos a in
           both_make pl (level ks) (level (ks ++ ki.Number ∷ [])) (level (ks ++ ki.Number ∷ [])) (code_of a (suc (length ks))) (unary_code un.Not t (register (suc (length ks)))) stands
-          (λ st1. as_number (type_of a) t c.0 ks pl.at (level ks) _ (expr_makes a c.1 ks pl few st1)) (λ pl1 st1. unary_makes ks (omega arith) (omega arith) pl1 un.Not t st1)
+          (λ st1. as_kind (type_of a) (ty.Int t) c.0 ks pl.at (level ks) _ (expr_makes a c.1 ks pl few st1)) (λ pl1 st1. unary_makes ks (omega arith) (omega arith) pl1 un.Not t st1)
       expr_makes (Unary un.Complement t a) c ks pl few stands =
           let n = need_pos a in
           both_make pl (level ks) (level (ks ++ ki.Number ∷ [])) (level (ks ++ ki.Number ∷ [])) (code_of a (suc (length ks))) (unary_code un.Complement t (register (suc (length ks)))) stands
-          (λ st1. as_number (type_of a) t c.0 ks pl.at (level ks) _ (expr_makes a c.1 ks pl few st1)) (λ pl1 st1. unary_makes ks (omega arith) (omega arith) pl1 un.Complement t st1)
+          (λ st1. as_kind (type_of a) (ty.Int t) c.0 ks pl.at (level ks) _ (expr_makes a c.1 ks pl few st1)) (λ pl1 st1. unary_makes ks (omega arith) (omega arith) pl1 un.Complement t st1)
       expr_makes (Unary un.Negate t a) c ks pl few stands =
           let n = need_pos a in
           both_make pl (level ks) (level (ks ++ ki.Number ∷ [])) (level (ks ++ ki.Number ∷ [])) (code_of a (suc (length ks))) (unary_code un.Negate t (register (suc (length ks)))) stands
-          (λ st1. as_number (type_of a) t c.0 ks pl.at (level ks) _ (expr_makes a c.1 ks pl few st1)) (λ pl1 st1. unary_makes ks (omega arith) (omega arith) pl1 un.Negate t st1)
+          (λ st1. as_kind (type_of a) (ty.Int t) c.0 ks pl.at (level ks) _ (expr_makes a c.1 ks pl few st1)) (λ pl1 st1. unary_makes ks (omega arith) (omega arith) pl1 un.Negate t st1)
       expr_makes (Unary un.Keep t a) c ks pl few stands =
           let n = need_pos a in
           both_make pl (level ks) (level (ks ++ ki.Number ∷ [])) (level (ks ++ ki.Number ∷ [])) (code_of a (suc (length ks))) (unary_code un.Keep t (register (suc (length ks)))) stands
-          (λ st1. as_number (type_of a) t c.0 ks pl.at (level ks) _ (expr_makes a c.1 ks pl few st1)) (λ pl1 st1. unary_makes ks (omega arith) (omega arith) pl1 un.Keep t st1)
+          (λ st1. as_kind (type_of a) (ty.Int t) c.0 ks pl.at (level ks) _ (expr_makes a c.1 ks pl few st1)) (λ pl1 st1. unary_makes ks (omega arith) (omega arith) pl1 un.Keep t st1)
       expr_makes (Operate (op.Arithmetic o' t) a b) c ks pl few stands =
           let n = need_pos b in
           let r = suc (length ks) in
           both_make pl (level ks) (level (ks ++ ki.Number ∷ [])) (level (ks ++ ki.Number ∷ [])) (code_of a r) (both (code_of b (r + 1)) (operate_on (op.Arithmetic o' t) (register r) (register (r + 1)))) stands
-          (λ st1. as_number (type_of a) t c.0.0 ks pl.at (level ks) _ (expr_makes a c.1 ks pl (omega arith) st1))
+          (λ st1. as_kind (type_of a) (ty.Int t) c.0.0 ks pl.at (level ks) _ (expr_makes a c.1 ks pl (omega arith) st1))
           (λ pl1 st1.
           both_make pl1 (level (ks ++ ki.Number ∷ [])) (level (ks ++ ki.Number ∷ ki.Number ∷ [])) (level (ks ++ ki.Number ∷ [])) (code_of b (r + 1)) (operate_on (op.Arithmetic o' t) (register r) (register (r + 1))) st1
           (λ st2. second b c.2 ki.Number ki.Number (ap kind_of_type c.0.1) ks pl1 (omega arith) (λ m e f. expr_makes b c.2 (ks ++ ki.Number ∷ []) pl1 e f) st2)
@@ -506,7 +500,7 @@ module _ (o : Object) where
           let n = need_pos b in
           let r = suc (length ks) in
           both_make pl (level ks) (level (ks ++ ki.Number ∷ [])) (level (ks ++ ki.Number ∷ [])) (code_of a r) (both (code_of b (r + 1)) (operate_on (op.Shift o' t) (register r) (register (r + 1)))) stands
-          (λ st1. as_number (type_of a) t c.0.0 ks pl.at (level ks) _ (expr_makes a c.1 ks pl (omega arith) st1))
+          (λ st1. as_kind (type_of a) (ty.Int t) c.0.0 ks pl.at (level ks) _ (expr_makes a c.1 ks pl (omega arith) st1))
           (λ pl1 st1.
           both_make pl1 (level (ks ++ ki.Number ∷ [])) (level (ks ++ ki.Number ∷ ki.Number ∷ [])) (level (ks ++ ki.Number ∷ [])) (code_of b (r + 1)) (operate_on (op.Shift o' t) (register r) (register (r + 1))) st1
           (λ st2. second b c.2 ki.Number ki.Number (ap kind_of_type c.0.1.1) ks pl1 (omega arith) (λ m e f. expr_makes b c.2 (ks ++ ki.Number ∷ []) pl1 e f) st2)
@@ -516,7 +510,7 @@ module _ (o : Object) where
           let r = suc (length ks) in
           let i = Cmp (register r) (register (r + 1)) in
           both_make pl (level ks) (level (ks ++ ki.Number ∷ [])) (level (ks ++ ki.Number ∷ [])) (code_of a r) (both (code_of b (r + 1)) (bit_by i (condition_of o' t.signed) (register r))) stands
-          (λ st1. as_number (type_of a) t c.0 ks pl.at (level ks) _ (expr_makes a c.2 ks pl (omega arith) st1))
+          (λ st1. as_kind (type_of a) (ty.Int t) c.0 ks pl.at (level ks) _ (expr_makes a c.2 ks pl (omega arith) st1))
           (λ pl1 st1.
           both_make pl1 (level (ks ++ ki.Number ∷ [])) (level (ks ++ ki.Number ∷ ki.Number ∷ [])) (level (ks ++ ki.Number ∷ [])) (code_of b (r + 1)) (bit_by i (condition_of o' t.signed) (register r)) st1
           (λ st2. second b c.3 ki.Number ki.Number (ap kind_of_type c.1) ks pl1 (omega arith) (λ m e f. expr_makes b c.3 (ks ++ ki.Number ∷ []) pl1 e f) st2)
@@ -541,7 +535,7 @@ module _ (o : Object) where
           let n = need_pos b in
           let r = suc (length ks) in
           both_make pl (level ks) (level (ks ++ ki.Number ∷ [])) (level (ks ++ ki.Number ∷ [])) (code_of a r) (both (code_of b (r + 1)) (differing (register r) (register (r + 1)))) stands
-          (λ st1. as_number (type_of a) c.0.0 c.0.1 ks pl.at (level ks) _ (expr_makes a c.2 ks pl (omega arith) st1))
+          (λ st1. as_kind (type_of a) (ty.Int c.0.0) c.0.1 ks pl.at (level ks) _ (expr_makes a c.2 ks pl (omega arith) st1))
           (λ pl1 st1.
           both_make pl1 (level (ks ++ ki.Number ∷ [])) (level (ks ++ ki.Number ∷ ki.Number ∷ [])) (level (ks ++ ki.Number ∷ [])) (code_of b (r + 1)) (differing (register r) (register (r + 1))) st1
           (λ st2. second b c.3 ki.Number ki.Number (ap kind_of_type c.1.1) ks pl1 (omega arith) (λ m e f. expr_makes b c.3 (ks ++ ki.Number ∷ []) pl1 e f) st2)
@@ -550,31 +544,31 @@ module _ (o : Object) where
           let n = need_pos a in
           let r = suc (length ks) in
           both_make pl (level ks) (level (ks ++ ki.Number ∷ [])) (level (ks ++ ki.Number ∷ [])) (code_of a r) (choice_code (Tst (register r)) Equal (both (code_of b r) (bit_by (Tst (register r)) NotEqual (register r))) (pieces.number 0 (register r))) stands
-          (λ st1. as_number (type_of a) c.0.0 c.0.1 ks pl.at (level ks) _ (expr_makes a c.2 ks pl (omega arith) st1))
+          (λ st1. as_kind (type_of a) (ty.Int c.0.0) c.0.1 ks pl.at (level ks) _ (expr_makes a c.2 ks pl (omega arith) st1))
           (λ pl1 st1.
           test_makes ks (omega arith) pl1 ki.Number Equal (both (code_of b r) (bit_by (Tst (register r)) NotEqual (register r))) (pieces.number 0 (register r)) st1
           (λ pl2 st2.
           both_make pl2 (level (ks ++ ki.Number ∷ [])) (level (ks ++ ki.Number ∷ [])) (level (ks ++ ki.Number ∷ [])) (code_of b r) (bit_by (Tst (register r)) NotEqual (register r)) st2
-          (λ st3. later ks (ki.Number ∷ []) pl2.at _ _ (as_number (type_of b) c.1.0 c.1.1 ks pl2.at (level ks) _ (expr_makes b c.3 ks pl2 (omega arith) st3)))
+          (λ st3. later ks (ki.Number ∷ []) pl2.at _ _ (as_kind (type_of b) (ty.Int c.1.0) c.1.1 ks pl2.at (level ks) _ (expr_makes b c.3 ks pl2 (omega arith) st3)))
           (λ pl3 st3. bit_makes ks (omega arith) pl3 NotEqual st3))
           (λ pl2 st2. number_makes ks (omega arith) pl2 (ki.Number ∷ []) 0 st2))
       expr_makes (Logic lo.Or a b) c ks pl few stands =
           let n = need_pos a in
           let r = suc (length ks) in
           both_make pl (level ks) (level (ks ++ ki.Number ∷ [])) (level (ks ++ ki.Number ∷ [])) (code_of a r) (choice_code (Tst (register r)) Equal (pieces.number 1 (register r)) (both (code_of b r) (bit_by (Tst (register r)) NotEqual (register r)))) stands
-          (λ st1. as_number (type_of a) c.0.0 c.0.1 ks pl.at (level ks) _ (expr_makes a c.2 ks pl (omega arith) st1))
+          (λ st1. as_kind (type_of a) (ty.Int c.0.0) c.0.1 ks pl.at (level ks) _ (expr_makes a c.2 ks pl (omega arith) st1))
           (λ pl1 st1.
           test_makes ks (omega arith) pl1 ki.Number Equal (pieces.number 1 (register r)) (both (code_of b r) (bit_by (Tst (register r)) NotEqual (register r))) st1
           (λ pl2 st2. number_makes ks (omega arith) pl2 (ki.Number ∷ []) 1 st2)
           (λ pl2 st2.
           both_make pl2 (level (ks ++ ki.Number ∷ [])) (level (ks ++ ki.Number ∷ [])) (level (ks ++ ki.Number ∷ [])) (code_of b r) (bit_by (Tst (register r)) NotEqual (register r)) st2
-          (λ st3. later ks (ki.Number ∷ []) pl2.at _ _ (as_number (type_of b) c.1.0 c.1.1 ks pl2.at (level ks) _ (expr_makes b c.3 ks pl2 (omega arith) st3)))
+          (λ st3. later ks (ki.Number ∷ []) pl2.at _ _ (as_kind (type_of b) (ty.Int c.1.0) c.1.1 ks pl2.at (level ks) _ (expr_makes b c.3 ks pl2 (omega arith) st3)))
           (λ pl3 st3. bit_makes ks (omega arith) pl3 NotEqual st3)))
       expr_makes (Choice t z a b) c ks pl few stands =
           let n = need_pos z in
           let r = suc (length ks) in
           both_make pl (level ks) (level (ks ++ ki.Number ∷ [])) (level (ks ++ kind_of_type t ∷ [])) (code_of z r) (choice_code (Tst (register r)) Equal (code_of a r) (code_of b r)) stands
-          (λ st1. as_number (type_of z) c.0.0 c.0.1 ks pl.at (level ks) _ (expr_makes z c.3 ks pl (omega arith) st1))
+          (λ st1. as_kind (type_of z) (ty.Int c.0.0) c.0.1 ks pl.at (level ks) _ (expr_makes z c.3 ks pl (omega arith) st1))
           (λ pl1 st1.
           test_makes ks (omega arith) pl1 (kind_of_type t) Equal (code_of a r) (code_of b r) st1
           (λ pl2 st2. later ks (ki.Number ∷ []) pl2.at _ _ (as_kind (type_of a) t c.1 ks pl2.at (level ks) _ (expr_makes a c.4 ks pl2 (omega arith) st2)))
@@ -582,7 +576,7 @@ module _ (o : Object) where
       expr_makes (Convert t u a) c ks pl few stands =
           let n = need_pos a in
           both_make pl (level ks) (level (ks ++ ki.Number ∷ [])) (level (ks ++ ki.Number ∷ [])) (code_of a (suc (length ks))) (narrowing u (register (suc (length ks)))) stands
-          (λ st1. as_number (type_of a) t c.0 ks pl.at (level ks) _ (expr_makes a c.1 ks pl few st1)) (λ pl1 st1. narrowing_makes ks (omega arith) (omega arith) pl1 u st1)
+          (λ st1. as_kind (type_of a) (ty.Int t) c.0 ks pl.at (level ks) _ (expr_makes a c.1 ks pl few st1)) (λ pl1 st1. narrowing_makes ks (omega arith) (omega arith) pl1 u st1)
       expr_makes (Assign x keys a) c ks pl few stands =
           let n = count_fits keys 0 (need_of_keys 0 keys) (omega arith) (omega arith) in
           let m = need_pos a in
