@@ -151,10 +151,6 @@ pub operands_on : {A E : Type 0} (x y : Typed) (r : ℕ) (k : Maker) (res : Resu
 operands_on x y r k (Ok z) a b c last first = operands_adds (code_of x r) (code_of y (r + 1)) k a b c first last
 operands_on x y r k (Err e) a b c last first = tt
 
-pub counted : (keys : List TypedExpr) → count (typeds_of keys) ≡ length keys
-counted [] = refl
-counted (x ∷ keys) = let e = counted keys in omega arith
-
 pub keys_need : (keys : Typeds) → count keys ≤ need_of_keys 0 keys
 keys_need keys = let n = count_fits keys 0 (need_of_keys 0 keys) (omega arith) (omega arith) in omega arith
 

@@ -111,9 +111,9 @@ same_object e d o t h is same =
 
 -- ---- one after the other
 
-pub expressions_on : (all : List TypedExpr) (n : ℕ) (e : TypedExpr) (done : List TypedObject) (Is : Typed → Type 0) → n < length all → e ≡ get_or all n e
+pub expressions_on : (all : List TypedExpr) (n : ℕ) (e : TypedExpr) (Is : Typed → Type 0) → n < length all → e ≡ get_or all n e
     → EachIs Is (typeds_of (drop n all)) → Is (typed_of e) × EachIs Is (typeds_of (drop (n + 1) all))
-expressions_on all n e done Is less same each = subst (λ l. EachIs Is (typeds_of l)) (front all n e less same) each
+expressions_on all n e Is less same each = subst (λ l. EachIs Is (typeds_of l)) (front all n e less same) each
 
 pub compiled_on : (all : List TypedExpr) (n : ℕ) (e : TypedExpr) (done : List TypedObject) → n < length all → e ≡ get_or all n e
     → done ++ compiled_objects (typeds_of (drop n all)) ≡ compiled_objects (typeds_of all)

@@ -254,11 +254,6 @@ module _ (o : Object) (f : Firing) where
   integer_there (ty.Int t) (va.Text bytes) some is = absurd is
   integer_there ty.Text v some is = let no = some.1 in cc
 
-  integer_of : (t : DType) (v : Value) → IsSomeInteger t → IsOf t v → IsOf t (va.Int (word_of v))
-  integer_of (ty.Int t) (va.Int w) some is = is
-  integer_of (ty.Int t) (va.Text bytes) some is = absurd is
-  integer_of ty.Text v some is = let no = some.1 in cc
-
   held_is : (t : DType) (w : ℕ) → IsSomeInteger t → IsOf t (va.Int (word_as_type t w))
   held_is (ty.Int t) w some = narrow_is t w
   held_is ty.Text w some = let no = some.1 in cc
@@ -581,7 +576,7 @@ module _ (o : Object) (f : Firing) where
           (λ st4. saving_leads o f x.space keys x.slot x.holds r q pl3 t3 vars1 key (va.Int new) u.high ready3 (omega arith) (omega arith) there3 d3.value (held_is x.holds (step_result step old) c.2) d3.at st4)
           (λ pl4 st4 t4 d4.
           then_leads r q pl4 (answering answer step x.holds (register q)) (lowering keys (register q) (register r)) t4 vars2 vars2 (va.Int (step_value answer old new)) (Has (va.Int (step_value answer old new)) vars2) (omega arith) st4
-          (λ st5. answering_leads answer step x.holds q pl4 old t4 vars2 c.2 (integer_of x.holds value c.2 is) u (omega arith) d4.long d4.at d4.value st5)
+          (λ st5. answering_leads answer step x.holds q pl4 old t4 vars2 c.2 (subst (IsOf x.holds) w.0 is) u (omega arith) d4.long d4.at d4.value st5)
           (λ pl5 st5 t5 d5. lowering_leads o f keys q r pl5 (va.Int (step_value answer old new)) t5 vars2 refl (record { low = low; high = omega arith }) u.high d5.long d5.at d5.value st5)))))
       expr_leads (Strlen a) c r pl s vars good low high ready e stands =
           let m = need_pos a in

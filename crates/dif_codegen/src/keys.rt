@@ -21,7 +21,7 @@ pub(crate) struct Target<'a> {
 }
 
 /// The number of the register after the keys.
-#[tactic(auto, using(crate::proofs::Adding::counted))]
+#[tactic(auto, using(d_types::proofs::Rows::count_is))]
 pub(crate) fn after(keys: &[TypedExpr], r: u8) -> u8
     requires few { r + count (typeds_of keys.now) ≤ 7 }
     ensures { result ≡ r + count (typeds_of keys.now) }
