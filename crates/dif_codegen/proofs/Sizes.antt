@@ -1,18 +1,12 @@
 -- How large a tree is, counted so that it grows with each function on the way to its parts.
-use Rattle.std.specs.Prelude.{◌≡◌, ◌≤◌, ◌<◌, ℕ, ◌+◌, List}
-use Rattle.std.proofs.Common.{ap, subst, arith, Vec, Global}
-use Rattle.d_parser.specs.declared.operators.Step.{Step}
-use Rattle.d_types.specs.declared.typed.Answer.{Answer}
-use Rattle.d_types.specs.declared.typed.Operation.{Operation}
-use Rattle.d_types.specs.declared.typed.TypedExpr.TheVariants as ex
-use Rattle.d_types.specs.declared.typed.Variable.{Variable}
+use Rattle.std.specs.Prelude.{◌≡◌, ◌≤◌, ℕ, ◌+◌}
+use Rattle.std.proofs.Common.{ap, subst}
 use Rattle.d_types.specs.Needs.{need}
-use Rattle.d_types.proofs.Nodes.{read_is, assign_is, update_is, step_is}
 use Rattle.d_types.specs.declared.typed.TypedExpr.{TypedExpr}
 use Rattle.d_types.specs.Typed.{Typed, Constant, Text, Fixed, Read, Unary, Operate, Compare}
 use Rattle.d_types.specs.Typed.{CompareText, Logic}
 use Rattle.d_types.specs.Typed.{Choice, Convert, Assign, Update, Count, Strlen, Strjoin}
-use Rattle.d_types.specs.Typed.{Typeds, end, more, typed_of, typeds_of}
+use Rattle.d_types.specs.Typed.{Typeds, end, more, typed_of}
 
 abbrev mutual
   pub size : Typed → ℕ
@@ -37,38 +31,6 @@ abbrev mutual
   sizes end = 0
   sizes (more a rest) = 1 + size a + sizes rest
 
--- ---- what an expression with keys hands to its own function: a smaller tree, and registers enough
-
-pub read_calls : (tree : TypedExpr) (x : Variable) (keys : Vec TypedExpr Global) (items : List TypedExpr) (r : ℕ)
-    → tree ≡ ex.Read x keys → items ≡ keys.items → r + need (typed_of tree) ≤ 7
-    → (1 + sizes (typeds_of items) < size (typed_of tree)) × (r + need (Read x (typeds_of items)) ≤ 7)
-read_calls tree x keys items r is same few =
-    let e = read_is tree x keys items is same in
-    let whole : size (typed_of tree) ≡ 2 + sizes (typeds_of items) = ap size e in
-    (omega arith, subst (λ z. r + need z ≤ 7) e few)
-
-pub assign_calls : (tree : TypedExpr) (x : Variable) (keys : Vec TypedExpr Global) (a : _) (items : List TypedExpr) (r : ℕ)
-    → tree ≡ ex.Assign x keys a → items ≡ keys.items → r + need (typed_of tree) ≤ 7
-    → (1 + sizes (typeds_of items) + size (typed_of a.value) < size (typed_of tree))
-    × (r + need (Assign x (typeds_of items) (typed_of a.value)) ≤ 7)
-assign_calls tree x keys a items r is same few =
-    let e = assign_is tree x keys a items is same in
-    let whole : size (typed_of tree) ≡ 2 + sizes (typeds_of items) + size (typed_of a.value) = ap size e in
-    (omega arith, subst (λ z. r + need z ≤ 7) e few)
-
-pub update_calls : (tree : TypedExpr) (o : Operation) (x : Variable) (keys : Vec TypedExpr Global) (a : _) (items : List TypedExpr) (r : ℕ)
-    → tree ≡ ex.Update o x keys a → items ≡ keys.items → r + need (typed_of tree) ≤ 7
-    → (1 + sizes (typeds_of items) + size (typed_of a.value) < size (typed_of tree))
-    × (r + need (Update o x (typeds_of items) (typed_of a.value)) ≤ 7)
-update_calls tree o x keys a items r is same few =
-    let e = update_is tree o x keys a items is same in
-    let whole : size (typed_of tree) ≡ 2 + sizes (typeds_of items) + size (typed_of a.value) = ap size e in
-    (omega arith, subst (λ z. r + need z ≤ 7) e few)
-
-pub step_calls : (tree : TypedExpr) (step : Step) (answer : Answer) (x : Variable) (keys : Vec TypedExpr Global) (items : List TypedExpr) (r : ℕ)
-    → tree ≡ ex.Step step answer x keys → items ≡ keys.items → r + need (typed_of tree) ≤ 7
-    → (1 + sizes (typeds_of items) < size (typed_of tree)) × (r + need (Count step answer x (typeds_of items)) ≤ 7)
-step_calls tree step answer x keys items r is same few =
-    let e = step_is tree step answer x keys items is same in
-    let whole : size (typed_of tree) ≡ 2 + sizes (typeds_of items) = ap size e in
-    (omega arith, subst (λ z. r + need z ≤ 7) e few)
+-- what an expression with keys hands to its own function: a smaller tree, and registers enough
+pub calls : (tree : TypedExpr) (z : Typed) (r : ℕ) → typed_of tree ≡ z → r + need (typed_of tree) ≤ 7 → (size (typed_of tree) ≡ size z) × (r + need z ≤ 7)
+calls tree z r e few = (ap size e, subst (λ z. r + need z ≤ 7) e few)

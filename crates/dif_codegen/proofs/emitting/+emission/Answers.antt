@@ -8,7 +8,7 @@ use Rattle.dif_codegen.specs.Steps.Code.{differing, keys_code}
 use Rattle.dif_codegen.specs.Steps.Drafts.{Adds}
 use Rattle.d_values.specs.declared.int_type.DType.TheVariants.{Text}
 use Rattle.dif_codegen.proofs.Adding.{both_adds, choice_adds, emitted_all, operands_on}
-use Rattle.dif_codegen.proofs.Sizes.{assign_calls, read_calls, step_calls, update_calls}
+use Rattle.dif_codegen.proofs.Sizes.{calls}
 use Rattle.dif_codegen.proofs.emitting.+emission.Goals as goal
 
 pub emit-returns-in-Read : goal.emit-returns-in-Read
@@ -28,22 +28,22 @@ emit_keys-returns t c = c.loop-key.invariant.2 _ (emitted_all _ _ _ _ c.loop-key
 
 pub emit-emit_read-requires : goal.emit-emit_read-requires
 emit-emit_read-requires t c =
-    let l = read_calls _ _ _ _ _ c.in-Read.is c.deref.ensures.value c.requires.few in
+    let l = calls _ _ _ (read_is _ _ _ _ c.in-Read.is c.deref.ensures.value) c.requires.few in
     (omega (arith, c.decreases, l.0), l.1)
 
 pub emit-emit_assign-requires : goal.emit-emit_assign-requires
 emit-emit_assign-requires t c =
-    let l = assign_calls _ _ _ _ _ _ c.in-Assign.is c.deref-in-Assign.ensures.value c.requires.few in
+    let l = calls _ _ _ (assign_is _ _ _ _ _ c.in-Assign.is c.deref-in-Assign.ensures.value) c.requires.few in
     rw c.deref-in-Assign-2.ensures (omega (arith, c.decreases, l.0), l.1)
 
 pub emit-emit_update-requires : goal.emit-emit_update-requires
 emit-emit_update-requires t c =
-    let l = update_calls _ _ _ _ _ _ _ c.in-Update.is c.deref-in-Update.ensures.value c.requires.few in
+    let l = calls _ _ _ (update_is _ _ _ _ _ _ c.in-Update.is c.deref-in-Update.ensures.value) c.requires.few in
     rw c.deref-in-Update-2.ensures (omega (arith, c.decreases, l.0), l.1)
 
 pub emit-emit_step-requires : goal.emit-emit_step-requires
 emit-emit_step-requires t c =
-    let l = step_calls _ _ _ _ _ _ _ c.in-Step.is c.deref-in-Step.ensures.value c.requires.few in
+    let l = calls _ _ _ (step_is _ _ _ _ _ _ c.in-Step.is c.deref-in-Step.ensures.value) c.requires.few in
     (omega (arith, c.decreases, l.0), l.1)
 
 pub emit_operation-returns : goal.emit_operation-returns
