@@ -219,9 +219,6 @@ module _ (o : Object) where
 
   -- the code of an expression gives the next register the kind of its type
   module _ (slots : Slots) where
-    no_more : (ks : List Kind) → level (ks ++ []) ≡ level ks
-    no_more ks = ap level (append-nil ks)
-
     two : (ks : List Kind) (j k : Kind) → level ((ks ++ j ∷ []) ++ k ∷ []) ≡ level (ks ++ j ∷ k ∷ [])
     two ks j k = ap level (append_assoc ks (j ∷ []) (k ∷ []))
 
@@ -237,7 +234,7 @@ module _ (o : Object) where
         ∙ first_of (ks ++ j ∷ []) k []
 
     from_none : (ks : List Kind) (pc : ℕ) (code : List Instr) (t : Shape) → Types o pc (level (ks ++ [])) code t → Types o pc (level ks) code t
-    from_none ks pc code t h = subst (λ l. Types o pc l code t) (no_more ks) h
+    from_none ks pc code t h = subst (λ l. Types o pc (level l) code t) (append-nil ks) h
 
     as_kind : (u v : DType) → u ≡ v → (ks : List Kind) (pc : ℕ) (s : Shape) (code : List Instr) → Types o pc s code (level (ks ++ kind_of_type u ∷ [])) → Types o pc s code (level (ks ++ kind_of_type v ∷ []))
     as_kind u v e ks pc s code h = subst (λ w. Types o pc s code (level (ks ++ kind_of_type w ∷ []))) e h
@@ -671,7 +668,7 @@ module _ (o : Object) where
 
       pub keys_make : (keys : Typeds) → AreConsistent slots keys → (ks : List Kind) (n : ℕ) (pl : Place) → suc (length ks) + need_of_keys n keys ≤ 7 + n → Stands o pl (keys_code keys (suc (length ks)) pl)
           → Makes pl (level ks) (keys_code keys (suc (length ks))) (level (ks ++ kinds_of_typed keys))
-      keys_make end c ks n pl few stands = subst (λ l. Types o pl.at (level ks) [] l) (sym (no_more ks)) (nothing_types o pl.at _ _ (within_self _))
+      keys_make end c ks n pl few stands = subst (λ l. Types o pl.at (level ks) [] (level l)) (sym (append-nil ks)) (nothing_types o pl.at _ _ (within_self _))
       keys_make (more a rest) c ks n pl few stands =
           let k = kind_of_type (type_of a) in
           let js = ks ++ k ∷ [] in
