@@ -5,6 +5,7 @@ use Rattle.std.proofs.Common.{take, get_or, slice_get, refl, sym, ap, ◌∙◌,
 use Rattle.std.proofs.Common.{arith, append-nil}
 use Rattle.std.specs.Prelude.{option_map}
 use Rattle.std.specs.Option.{option_or}
+use Rattle.std.proofs.lemmas.List.{take-append-drop, take_all}
 use Rattle.std.proofs.lemmas.List.Concat.{flat_map-append}
 use Rattle.d_types.specs.Typed.{ScriptMeant}
 use Rattle.firings.specs.declared.firing.Firing.{Firing}
@@ -72,24 +73,13 @@ ended_by_last m seen fs all none parts = record { rest = []; parts = parts ∙ s
 
 -- ---- indices
 
-take_drop : (i : ℕ) (indices : List ℕ) → indices ≡ take i indices ++ drop i indices
-take_drop zero indices = refl
-take_drop (suc i) [] = refl
-take_drop (suc i) (p ∷ indices) = ap (λ l. p ∷ l) (take_drop i indices)
-
 -- the firings at the indices up to one, and from it on
 pub at_parts : (fs : List Firing) (indices : List ℕ) (i : ℕ) → firings_at fs indices ≡ firings_at fs (take i indices) ++ firings_at fs (drop i indices)
-at_parts fs indices i = ap (firings_at fs) (take_drop i indices) ∙ flat_map-append (λ p. take 1 (drop p fs)) (take i indices) (drop i indices)
+at_parts fs indices i = ap (firings_at fs) (sym (take-append-drop i indices)) ∙ flat_map-append (λ p. take 1 (drop p fs)) (take i indices) (drop i indices)
 
 pub at_next : (fs : List Firing) (indices : List ℕ) (i index : ℕ) (f : Firing) → i < length indices → get_or indices i index ≡ index → slice_get fs index ≡ Some f
     → firings_at fs (drop i indices) ≡ f ∷ firings_at fs (drop (i + 1) indices)
 at_next fs indices i index f lt item is = ap (firings_at fs) (drop_next indices i index lt item) ∙ ap (λ l. l ++ firings_at fs (drop (i + 1) indices)) (one_at fs index f is)
-
-take_all : (i : ℕ) (indices : List ℕ) → length indices ≤ i → take i indices ≡ indices
-take_all zero [] le = refl
-take_all zero (p ∷ indices) le = absurd (omega arith)
-take_all (suc i) [] le = refl
-take_all (suc i) (p ∷ indices) le = ap (λ l. p ∷ l) (take_all i indices (omega arith))
 
 pub at_all : (fs : List Firing) (indices : List ℕ) (i : ℕ) → length indices ≤ i → firings_at fs indices ≡ firings_at fs (take i indices)
 at_all fs indices i le = ap (firings_at fs) (sym (take_all i indices le))

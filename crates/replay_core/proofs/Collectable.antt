@@ -4,12 +4,12 @@ use Rattle.std.proofs.Common.{false, cond, List, [], ◌∷◌, All, None, Some,
 use Rattle.std.proofs.Common.{length, sum_by, refl, ap, ◌∙◌, ⊎_elim, arith, eq-eqb, ne_eqb}
 use Rattle.std.proofs.lemmas.List.{length-map}
 use Rattle.std.proofs.lemmas.List.Sums.{sum_by-cons}
-use Rattle.std.proofs.lemmas.Bool.{cases_eq, cases_order, lt-ltb}
+use Rattle.std.proofs.lemmas.Bool.{cases_Bool, cases_eq, cases_order, lt-ltb}
 use Rattle.aggregations.specs.Table.{count_held}
 use Rattle.d_types.specs.Typed.{ScriptMeant}
 use Rattle.firings.specs.declared.firing.Firing.{Firing}
 use Rattle.firings.specs.Firings.{number_of}
-use Rattle.shard_queue.proofs.Totals.{below-once, below-times, weight_of}
+use Rattle.shard_queue.proofs.Totals.{below-once, below-times, weight_of, weight_of-other, weight_of-same}
 use Rattle.replay_core.specs.declared.lanes.piece.Piece.{Piece}
 use Rattle.replay_core.specs.declared.collect_fault.CollectFault.TheVariants.{Twice, Stranger}
 use Rattle.replay_core.specs.Groups.{AreGrouped, Grouping, IsAllBelow, below, of_group}
@@ -19,17 +19,11 @@ use Rattle.replay_core.specs.Seen.{IsRoomy}
 use Rattle.replay_core.specs.Tables.{AllHave, CanMerge}
 use Rattle.replay_core.specs.Collecting.{tables_of, IsFirstMissing}
 use Rattle.replay_core.specs.Working.{IsOfGroup}
-use Rattle.replay_core.proofs.GroupSums.{parts_sum, truth}
+use Rattle.replay_core.proofs.GroupSums.{parts_sum}
 
 one_if : Bool → ℕ
 one_if true = 1
 one_if false = 0
-
-pub weight-other : (x y : ℕ) → y ≢ x → weight_of x y ≡ 0
-weight-other x y apart = grind arith
-
-weight-same : (x : ℕ) → weight_of x x ≡ 1
-weight-same x = grind arith
 
 -- no piece is bad where each group has one
 no_bad_from : (n : ℕ) (had : ℕ → Bool) (ps : List (ℕ × Piece)) → ((g : ℕ) → one_if (had g) + sum_by (weight_of g) (map (λ p. p.0) ps) ≤ sum_by (weight_of g) (below n)) → first_bad_after had n ps ≡ None
@@ -38,11 +32,11 @@ no_bad_from n had [] each = refl
 no_bad_from n had (p ∷ ps) each =
     let own = each p.0 in
     let sum = sum_by-cons (weight_of p.0) p.0 (map (λ q. q.0) ps) in
-    let one = weight-same p.0 in
+    let one = weight_of-same p.0 in
     let below : p.0 < n = ⊎_elim (λ (e : p.0 ≡ n). absurd (let none = below-times p.0 n (omega arith) in omega arith))
     (λ (o : (p.0 < n) ⊎ (n < p.0)). ⊎_elim (λ (lt : p.0 < n). lt) (λ (gt : n < p.0). absurd (let none = below-times p.0 n (omega arith) in omega arith)) o) (cases_order p.0 n) in
     let once = below-once p.0 n below in
-    let free : had p.0 ≡ false = ⊎_elim (λ (e : had p.0 ≡ true). absurd (let more : one_if (had p.0) ≡ one_if true = ap one_if e in let one' : one_if true ≡ 1 = refl in omega arith)) (λ (e : had p.0 ≡ false). e) (truth (had p.0)) in
+    let free : had p.0 ≡ false = ⊎_elim (λ (e : had p.0 ≡ true). absurd (let more : one_if (had p.0) ≡ one_if true = ap one_if e in let one' : one_if true ≡ 1 = refl in omega arith)) (λ (e : had p.0 ≡ false). e) (cases_Bool (had p.0)) in
     let next = λ (g : ℕ). cond (g == p.0) true (had g) in
     ap (λ b. cond b (cond (had p.0) (Some (Twice p.0)) (first_bad_after next n ps)) (Some (Stranger p.0))) (lt-ltb p.0 n below)
     ∙ ap (λ b. cond b (Some (Twice p.0)) (first_bad_after next n ps)) free
@@ -65,7 +59,7 @@ no_bad n ps all = no_bad_from n (λ g. false) ps (λ g. let same = all (weight_o
 none_weighs : (g : ℕ) (ps : List (ℕ × Piece)) → All (λ p. p.0 ≢ g) ps → sum_by (weight_of g) (map (λ p. p.0) ps) ≡ 0
 none_weighs g [] none = refl
 none_weighs g (p ∷ ps) none =
-    let here = weight-other g p.0 (none 0 p (omega arith)) in
+    let here = weight_of-other g p.0 (none 0 p (omega arith)) in
     let more = none_weighs g ps (λ k d lt. none (suc k) d (omega arith)) in
     let cons = sum_by-cons (weight_of g) p.0 (map (λ q. q.0) ps) in
     omega arith

@@ -6,9 +6,10 @@ use Rattle.std.proofs.Common.{add-one, append_assoc, eq-eqb, nat_lt}
 use Rattle.std.specs.Prelude.{slice_get}
 use Rattle.std.specs.List.{list_all}
 use Rattle.std.proofs.Math.Seq.{drop-cons}
+use Rattle.std.proofs.lemmas.Bool.{and_parts}
 use Rattle.std.proofs.lemmas.Bool.Decides.{Decides-eqb, nat_tests}
 use Rattle.std.proofs.lemmas.List.{get_or-map, length-map, map-append}
-use Rattle.std.proofs.lemmas.List.Elements.{filter-append}
+use Rattle.std.proofs.lemmas.List.Elements.{All-push, All-weaker, filter-append}
 use Rattle.std.proofs.lemmas.Option.{slice_get_within}
 use Rattle.keyed_hash.specs.declared.hash_key.HashKey.{HashKey}
 use Rattle.d_parser.specs.declared.tree.Description.{Description}
@@ -27,7 +28,7 @@ use Rattle.replay_core.specs.Steps.Patterns.{is_plain}
 use Rattle.replay_core.specs.Indices.{indices_for}
 use Rattle.replay_core.specs.Steps.Indices.{merge}
 use Rattle.replay_core.specs.Uniting.{AllFrom, InOrder, with_number}
-use Rattle.replay_core.proofs.PatternTests.{and_parts, literal, matches_there}
+use Rattle.replay_core.proofs.PatternTests.{literal, matches_there}
 use Rattle.replay_core.proofs.IndicesMerged.{AreFrom, Rise, merges}
 
 -- the indices of those that select the probe
@@ -94,13 +95,8 @@ module _ (key : HashKey) where
 
   pub kinds_more : (old new : List (Option (Bor Description))) (items more : List (ℕ × Described)) (x : ℕ × Described) → Extends old new → All (HasKind key old) items
       → HasKind key new x → more ≡ items ++ x ∷ [] → All (HasKind key new) more
-  kinds_more old new items more x longer each one is = subst (All (HasKind key new)) (sym is) (both items each)
-    where
-      both : (items : List (ℕ × Described)) → All (HasKind key old) items → All (HasKind key new) (items ++ x ∷ [])
-      both [] each zero d lt = one
-      both [] each (suc k) d lt = absurd (omega arith)
-      both (y ∷ items) each zero d lt = still_kind old new y longer (each 0 d (omega arith))
-      both (y ∷ items) each (suc k) d lt = both items (λ j e under. each (suc j) e (omega arith)) k d (omega arith)
+  kinds_more old new items more x longer each one is = subst (All (HasKind key new)) (sym is)
+      (All-push (HasKind key new) items x (All-weaker (HasKind key old) (HasKind key new) (λ y. still_kind old new y longer) items each) one)
 
   -- those of a kind that select the probe are found by the hash that is sought
   pub found_all : (kinds : List (Option (Bor Description))) (p : Probe) (k : ℕ) (kind : Option (Bor Description)) → slice_get kinds k ≡ Some kind → (xs : List (ℕ × Described)) → All (HasKind key kinds) xs

@@ -42,7 +42,7 @@ exit_then (ef.Says text ∷ a) b = exit_then a b
 exit_then (ef.Adds index key z ∷ a) b = exit_then a b
 exit_then (ef.Exits status ∷ a) b = refl
 
-abbrev made_of : List (List ℕ) → List Contribution → Option ℕ → Variables → Made
+abbrev pub made_of : List (List ℕ) → List Contribution → Option ℕ → Variables → Made
 made_of texts contributions exit vars = record { texts = texts; contributions = contributions; exit = exit; variables = vars }
 
 done_then : (a b : List Effect) (vars : Variables) → effects_result (a ++ b) vars ≡ and_then (effects_result a vars) (effects_result b vars)

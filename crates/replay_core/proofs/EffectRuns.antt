@@ -3,7 +3,6 @@ use Rattle.std.specs.Prelude.{◌≡◌, ℕ, zero, suc, List, [], ◌∷◌, �
 use Rattle.std.specs.Prelude.{if◌then◌else◌}
 use Rattle.std.specs.Option.{option_or}
 use Rattle.std.proofs.Common.{refl, ap, ◌∙◌, append_assoc}
-use Rattle.aggregations.specs.Table.{Contribution}
 use Rattle.d_types.specs.declared.effect.Effect.{Effect}
 use Rattle.d_types.specs.declared.effect.Effect.TheVariants as ef
 use Rattle.d_types.specs.Clauses.{Evaluation, Made, and_then, effect_by, effect_result, go_on}
@@ -13,10 +12,8 @@ use Rattle.d_types.specs.Storage.{Variables}
 use Rattle.d_types.specs.Typed.{ActionOf}
 use Rattle.replay_core.specs.Steps.EffectRuns.{Ran, contributions_in, effect_then, exit_in, ran_by}
 use Rattle.replay_core.specs.Steps.EffectRuns.{run_result, statements_by, texts_in, where_true}
+use Rattle.replay_core.proofs.EffectLemmas.{made_of}
 use Rattle.replay_core.proofs.Noting.{append_nil, or_none}
-
-abbrev all_made : List (List ℕ) → List Contribution → Option ℕ → Variables → Made
-all_made texts contributions exit vars = record { texts = texts; contributions = contributions; exit = exit; variables = vars }
 
 or_assoc : (a b c : Option ℕ) → option_or (option_or a b) c ≡ option_or a (option_or b c)
 or_assoc None b c = refl
@@ -32,25 +29,25 @@ made_after line before ran = record {
 }
 
 nothing_after : (before : Made) (texts : List (List ℕ)) (vars : Variables)
-    → all_made texts before.contributions before.exit vars ≡ all_made texts (before.contributions ++ []) (option_or before.exit None) vars
+    → made_of texts before.contributions before.exit vars ≡ made_of texts (before.contributions ++ []) (option_or before.exit None) vars
 nothing_after before texts vars =
-    ap (λ c. all_made texts c before.exit vars) (append_nil before.contributions)
-    ∙ ap (λ e. all_made texts (before.contributions ++ []) e vars) (or_none before.exit)
+    ap (λ c. made_of texts c before.exit vars) (append_nil before.contributions)
+    ∙ ap (λ e. made_of texts (before.contributions ++ []) e vars) (or_none before.exit)
 
 -- one more before the others
 joined : (line : List ℕ) (before one : Made) (ran : Ran) →
     made_after line (and_then before one) ran
-    ≡ all_made (if ran.faulted then line ∷ [] else before.texts ++ (one.texts ++ texts_in ran.effects)) (before.contributions ++ (one.contributions ++ contributions_in ran.effects))
+    ≡ made_of (if ran.faulted then line ∷ [] else before.texts ++ (one.texts ++ texts_in ran.effects)) (before.contributions ++ (one.contributions ++ contributions_in ran.effects))
     (option_or before.exit (option_or one.exit (exit_in ran.effects))) ran.variables
 joined line before one ran =
     let cs = contributions_in ran.effects in
     let ts = texts_in ran.effects in
     let e = exit_in ran.effects in
-    ap (λ t. all_made (if ran.faulted then line ∷ [] else t) ((before.contributions ++ one.contributions) ++ cs) (option_or (option_or before.exit one.exit) e) ran.variables)
+    ap (λ t. made_of (if ran.faulted then line ∷ [] else t) ((before.contributions ++ one.contributions) ++ cs) (option_or (option_or before.exit one.exit) e) ran.variables)
     (append_assoc before.texts one.texts ts)
-    ∙ ap (λ c. all_made (if ran.faulted then line ∷ [] else before.texts ++ (one.texts ++ ts)) c (option_or (option_or before.exit one.exit) e) ran.variables)
+    ∙ ap (λ c. made_of (if ran.faulted then line ∷ [] else before.texts ++ (one.texts ++ ts)) c (option_or (option_or before.exit one.exit) e) ran.variables)
     (append_assoc before.contributions one.contributions cs)
-    ∙ ap (λ x. all_made (if ran.faulted then line ∷ [] else before.texts ++ (one.texts ++ ts)) (before.contributions ++ (one.contributions ++ cs)) x ran.variables)
+    ∙ ap (λ x. made_of (if ran.faulted then line ∷ [] else before.texts ++ (one.texts ++ ts)) (before.contributions ++ (one.contributions ++ cs)) x ran.variables)
     (or_assoc before.exit one.exit e)
 
 -- a statement, and then those after it
@@ -70,7 +67,7 @@ one_then line before (Has (ef.Adds index key z) vars) go ran rest =
 module _ {E Es : Type 0} (by : Evaluation E Es) (line : List ℕ) where
   statements_are : (all : List (ActionOf E Es)) (before : Made) → statements_made by line all before ≡ made_after line before (statements_by by all before.variables)
   statements_are [] before =
-      ap (λ t. all_made t before.contributions before.exit before.variables) (append_nil before.texts)
+      ap (λ t. made_of t before.contributions before.exit before.variables) (append_nil before.texts)
       ∙ nothing_after before (before.texts ++ []) before.variables
   statements_are (a ∷ rest) before =
       one_then line before (effect_by by a before.variables) (statements_made by line rest) (statements_by by rest) (statements_are rest)

@@ -40,6 +40,9 @@ none_up_to n (f ∷ fs) r =
     ap (λ b. if b then f ∷ filter (λ f. nat_le f.number n) fs else filter (λ f. nat_le f.number n) fs) (lt-leb f.number n r.0)
     ∙ none_up_to n fs (rises_less n f.number fs (omega (arith, r.0)) r.1)
 
+pub some_is : (a b : ℕ × ℕ) → ◌≡◌ {A = Option (ℕ × ℕ)} (Some a) (Some b) → a ≡ b
+some_is a b e = cc
+
 -- an exit is at one of the firings, whose numbers are above n
 pub late : (m : ScriptMeant) (n : ℕ) (fs : List Firing) (threads : Threads) → Rises n fs → (x : ℕ × ℕ) → exit_of (history m fs threads) ≡ Some x → n < x.0
 late m n [] threads r x e = cc
@@ -48,9 +51,6 @@ late m n (f ∷ fs) threads r x e =
       | None ↦ λ later. let after = late m f.number fs (threads_after m f threads) r.1 x later in omega (arith, r.0, after)
       | Some status ↦ λ here. let same = some_is (f.number, status) x here in subst (λ y. n < y.0) same r.0
     ] e
-  where
-    some_is : (a b : ℕ × ℕ) → ◌≡◌ {A = Option (ℕ × ℕ)} (Some a) (Some b) → a ≡ b
-    some_is a b e = cc
 
 up_to_nil : (o : Option (ℕ × ℕ)) → up_to o [] ≡ []
 up_to_nil None = refl

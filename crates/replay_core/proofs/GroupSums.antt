@@ -9,10 +9,6 @@ use Rattle.std.proofs.lemmas.List.Elements.{filter-append}
 use Rattle.std.proofs.lemmas.List.Sums.{sum_by-append, sum_by-cons}
 use Rattle.replay_core.specs.Groups.{is_group}
 
-pub truth : (b : Bool) → (b ≡ true) ⊎ (b ≡ false)
-truth true = inl refl
-truth false = inr refl
-
 pub sum_by-flat : {A B : Type 0} (h : B → ℕ) (f : A → List B) (xs : List A) → sum_by h (flat_map f xs) ≡ sum_by (λ x. sum_by h (f x)) xs
 sum_by-flat h f [] = refl
 sum_by-flat h f (x ∷ xs) = sum_by-append h (f x) (flat_map f xs) ∙ ap (λ s. sum_by h (f x) + s) (sum_by-flat h f xs) ∙ sym (sum_by-cons (λ y. sum_by h (f y)) x xs)

@@ -1,7 +1,7 @@
 -- The texts of a run, and those of its groups.
 use Rattle.std.proofs.Common.{◌≡◌, ◌≢◌, ℕ, zero, suc, ◌<◌, ◌≤◌, ◌==◌, Bool, true, false, cond, List}
 use Rattle.std.proofs.Common.{[], ◌∷◌, ◌++◌, Option, map, refl, sym, ap, ◌∙◌, subst, ⊎_elim, arith}
-use Rattle.std.proofs.Common.{eq-eqb, ne_eqb, add-one}
+use Rattle.std.proofs.Common.{ne_eqb}
 use Rattle.std.specs.List.{flat_map, range_with_len}
 use Rattle.std.specs.List.Sorted.{IsStrictlyIncreasing}
 use Rattle.std.proofs.lemmas.Bool.{cases_eq}
@@ -12,6 +12,7 @@ use Rattle.firings.specs.Firings.{number_of}
 use Rattle.replay_core.specs.Groups.{Grouping, AreGrouped, is_group}
 use Rattle.replay_core.specs.Meaning.{Threads, history, texts_of, threads_after}
 use Rattle.replay_core.specs.Uniting.{with_number, AllFrom, InOrder}
+use Rattle.replay_core.proofs.ExitLemmas.{Rises, rises_is}
 use Rattle.replay_core.proofs.GroupSums.{AllIn, filter-flat, flat_none, flat_one, flat_same}
 use Rattle.replay_core.proofs.GroupSums.{own_group, part, passed, taken}
 
@@ -33,13 +34,13 @@ pub over_climbs : (n : ℕ) (r : List (Firing × Made)) → Over n r → Climbs 
 over_climbs n [] over = tt
 over_climbs n (x ∷ r) over = over.1
 
-over_history : (m : ScriptMeant) (n : ℕ) (fs : List Firing) (threads : Threads) → IsStrictlyIncreasing (n ∷ map number_of fs) → Over n (history m fs threads)
+pub over_history : (m : ScriptMeant) (n : ℕ) (fs : List Firing) (threads : Threads) → Rises n fs → Over n (history m fs threads)
 over_history m n [] threads up = tt
-over_history m n (f ∷ fs) threads up = (up 0 (omega arith), over_history m f.number fs (threads_after m f threads) (λ k within. rw add-one (rw add-one at (up (suc k) (omega arith)))))
+over_history m n (f ∷ fs) threads up = (up.0, over_history m f.number fs (threads_after m f threads) up.1)
 
 pub climbs_history : (m : ScriptMeant) (fs : List Firing) (threads : Threads) → IsStrictlyIncreasing (map number_of fs) → Climbs (history m fs threads)
 climbs_history m [] threads up = tt
-climbs_history m (f ∷ fs) threads up = over_history m f.number fs (threads_after m f threads) up
+climbs_history m (f ∷ fs) threads up = over_history m f.number fs (threads_after m f threads) (rises_is f.number fs up)
 
 -- the group of what a firing made
 abbrev pub group_in : Grouping → Firing × Made → Option ℕ
@@ -59,10 +60,6 @@ over_part group g n (x ∷ r) over = here (is_group g (group x)) (over_part grou
     here false more = over_less n x.0.number (part group g r) (let lt = over.0 in omega arith) more
 
 -- ---- the texts of one number
-
-kept_all : {T : Type 0} (k m : ℕ) (ts : List T) → m ≡ k → with_number k (map (λ t. (m, t)) ts) ≡ map (λ t. (m, t)) ts
-kept_all k m [] e = refl
-kept_all k m (t ∷ ts) e = ap (λ b. cond b ((m, t) ∷ with_number k (map (λ t. (m, t)) ts)) (with_number k (map (λ t. (m, t)) ts))) (eq-eqb m k e) ∙ ap (λ l. (m, t) ∷ l) (kept_all k m ts e)
 
 kept_none : {T : Type 0} (k m : ℕ) (ts : List T) → m ≢ k → with_number k (map (λ t. (m, t)) ts) ≡ []
 kept_none k m [] ne = refl

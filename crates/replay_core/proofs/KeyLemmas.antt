@@ -1,9 +1,9 @@
 -- Keys of words, a word further.
 use Rattle.std.specs.Prelude.{◌≡◌, ◌++◌, ℕ, List, [], ◌∷◌, Err}
 use Rattle.std.specs.List.{All}
-use Rattle.std.proofs.Common.{refl, sym, ap, ap₂, ◌∙◌}
+use Rattle.std.proofs.Common.{refl, sym, ap, ◌∙◌}
 use Rattle.std.proofs.lemmas.List.{append_assoc}
-use Rattle.std.proofs.lemmas.List.Elements.{All-append, All-cons, All-head, All-nil, All-tail, All-weaker}
+use Rattle.std.proofs.lemmas.List.Elements.{All-push, All-weaker}
 use Rattle.d_values.specs.Keys.{part_of}
 use Rattle.d_values.specs.declared.key.KeyPart.{KeyPart}
 use Rattle.d_values.specs.declared.value.Value.{Value}
@@ -13,9 +13,10 @@ use Rattle.numbered.specs.Words.{key_in}
 use Rattle.numbered.specs.declared.word.Word.{Word}
 use Rattle.d_types.specs.Expressions.{Outcome, Has, Faults, with}
 use Rattle.d_types.specs.Storage.{Variables}
-use Rattle.dif_machine.specs.CellLaws.{value_kept, word_within}
+use Rattle.dif_machine.specs.CellLaws.{word_within}
 use Rattle.dif_machine.specs.Machine.{IsWithin}
 use Rattle.dif_machine.specs.Machine as machine
+use Rattle.dif_machine.proofs.Holding.{key_kept}
 use Rattle.dif_codegen.specs.Meaning.{key_of_objects, value_of}
 use Rattle.dif_codegen.specs.declared.program.TypedObject.{TypedObject}
 use Rattle.replay_core.specs.declared.evaluation.fault.EvalFault.{EvalFault}
@@ -23,16 +24,9 @@ use Rattle.replay_core.specs.Evaluation.{Returns}
 use Rattle.replay_core.specs.Steps.Evaluation.{IsMadeKey}
 
 module _ (old new : List (List ℕ)) (kept : Keeps old new) where
-  pub key_kept : (words : List Word) → All (IsWithin old) words → key_in new words ≡ key_in old words
-  key_kept [] all = refl
-  key_kept (w ∷ words) all =
-      ap₂ (λ (p : KeyPart) ps. p ∷ ps) (ap part_of (value_kept old new kept w (All-head (IsWithin old) w words all)))
-      (key_kept words (All-tail (IsWithin old) w words all))
-
   pub within_more : (words : List Word) (w : Word) → All (IsWithin old) words → IsWithin new w → All (IsWithin new) (words ++ w ∷ [])
   within_more words w all one =
-      All-append (IsWithin new) words (w ∷ []) (All-weaker (IsWithin old) (IsWithin new) (word_within old new kept) words all)
-      (All-cons (IsWithin new) w [] one (All-nil (IsWithin new)))
+      All-push (IsWithin new) words w (All-weaker (IsWithin old) (IsWithin new) (word_within old new kept) words all) one
 
   key_more : (words : List Word) (w : Word) → key_in new (words ++ w ∷ []) ≡ key_in new words ++ part_of (machine.value_of new w) ∷ []
   key_more [] w = refl
@@ -50,7 +44,7 @@ module _ (old new : List (List ℕ)) (kept : Keeps old new) where
       goes : (y : Outcome (List KeyPart)) → with y (λ key. Has (key_in new (words ++ w ∷ []) ++ key))
           ≡ with (with y (λ key. Has (part_of (machine.value_of new w) ∷ key))) (λ key. Has (key_in old words ++ key))
       goes (Has key vars) = ap (λ k. Has k vars)
-          (ap (λ l. l ++ key) (key_more words w ∙ ap (λ l. l ++ part_of (machine.value_of new w) ∷ []) (key_kept words all))
+          (ap (λ l. l ++ key) (key_more words w ∙ ap (λ l. l ++ part_of (machine.value_of new w) ∷ []) (key_kept old new kept words all))
           ∙ append_assoc (key_in old words) (part_of (machine.value_of new w) ∷ []) key)
       goes (Faults vars) = refl
 

@@ -10,7 +10,7 @@ use Rattle.firings.specs.declared.firing.Firing.{Firing}
 use Rattle.firings.specs.Firings.{number_of}
 use Rattle.replay_core.specs.Exit.{IsLeastExit, exits_of}
 use Rattle.replay_core.specs.Meaning.{Threads, exit_of, history, firing_result, threads_after}
-use Rattle.replay_core.proofs.ExitLemmas.{Rises, rises_is}
+use Rattle.replay_core.proofs.ExitLemmas.{Rises, rises_is, some_is}
 
 -- ---- a list of exits
 
@@ -31,9 +31,6 @@ among x xs y (suc k, less, is) = inr (k, omega arith, is)
 contains_more : {A : Type 0} (x : A) (xs : List A) (y : A) → Contains xs y → Contains (x ∷ xs) y
 contains_more x xs y there = (suc there.0, (let less = there.1 in omega arith), there.2)
 
-same_some : (a b : ℕ × ℕ) → ◌≡◌ {A = Option (ℕ × ℕ)} (Some a) (Some b) → a ≡ b
-same_some a b e = cc
-
 first_is_least : (exits : List (Option (ℕ × ℕ))) → Ascend exits → (exit : ℕ × ℕ) → (first_some exits ≡ Some exit) ↔ IsLeastExit exits exit
 first_is_least [] up exit = (λ e. absurd (let c : ◌≡◌ {A = Option (ℕ × ℕ)} None (Some exit) = e in cc), λ h. let less = h.one.1 in absurd (omega arith))
 first_is_least (None ∷ exits) up exit =
@@ -51,12 +48,12 @@ first_is_least (None ∷ exits) up exit =
     )
 first_is_least (Some x ∷ exits) up exit = (
   λ e.
-      let same = same_some x exit e in
+      let same = some_is x exit e in
       subst (IsLeastExit (Some x ∷ exits)) same record {
         one = (0, omega arith, refl);
         least = λ other there.
             ⊎_elim
-            (λ c. let here = ap (λ (y : ℕ × ℕ). y.0) (same_some x other c) in omega arith)
+            (λ c. let here = ap (λ (y : ℕ × ℕ). y.0) (some_is x other c) in omega arith)
             (λ later. let less = up.0 other later in omega arith)
             (among (Some x) exits (Some other) there);
       },
@@ -75,7 +72,7 @@ first_is (x ∷ h) = ap (option_or (option_map (λ status. (x.0.number, status))
 
 its_number : (f : Firing) (o : Option ℕ) (exit : ℕ × ℕ) → option_map (λ status. (f.number, status)) o ≡ Some exit → f.number ≡ exit.0
 its_number f None exit e = absurd (let c : ◌≡◌ {A = Option (ℕ × ℕ)} None (Some exit) = e in cc)
-its_number f (Some status) exit e = ap (λ (y : ℕ × ℕ). y.0) (same_some (f.number, status) exit e)
+its_number f (Some status) exit e = ap (λ (y : ℕ × ℕ). y.0) (some_is (f.number, status) exit e)
 
 all_late : (m : ScriptMeant) (n : ℕ) (fs : List Firing) (threads : Threads) → Rises n fs → (exit : ℕ × ℕ) → Contains (exits_of (history m fs threads)) (Some exit) → n < exit.0
 all_late m n [] threads up exit there = let less = there.1 in absurd (omega arith)

@@ -1,7 +1,7 @@
 -- What is noted, one after the other.
 use Rattle.std.specs.Prelude.{◌≡◌, ℕ, List, [], ◌∷◌, ◌++◌, map, Option, None, Some, option_map}
 use Rattle.std.specs.Option.{option_or}
-use Rattle.std.proofs.Common.{refl, sym, ap, ◌∙◌, subst, append_assoc}
+use Rattle.std.proofs.Common.{refl, sym, ap, ◌∙◌, subst, append-nil, append_assoc}
 use Rattle.std.proofs.lemmas.List.{map-append}
 use Rattle.aggregations.specs.Table.{StandsFor}
 use Rattle.d_types.specs.Clauses.{Made, nothing_made, and_then}
@@ -10,8 +10,7 @@ use Rattle.replay_core.specs.Pieces.{PieceSeen}
 use Rattle.replay_core.specs.Lanes.{Notes}
 
 pub append_nil : {A : Type 0} (xs : List A) → xs ≡ xs ++ []
-append_nil [] = refl
-append_nil (x ∷ xs) = ap (λ l. x ∷ l) (append_nil xs)
+append_nil xs = sym (append-nil xs)
 
 pub or_none : {A : Type 0} (o : Option A) → o ≡ option_or o None
 or_none None = refl

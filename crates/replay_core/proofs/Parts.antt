@@ -5,7 +5,7 @@ use Rattle.std.proofs.Common.{sym, zero, ℕ, ◌++◌, ◌+◌, ◌<◌, ◌∙
 use Rattle.std.specs.List.{flat_map}
 use Rattle.std.specs.declared.alloc.Global.{Global}
 use Rattle.std.proofs.lemmas.List.{map-append}
-use Rattle.std.proofs.lemmas.List.Elements.{All-append}
+use Rattle.std.proofs.lemmas.List.Elements.{All-append, All-map}
 use Rattle.d_types.specs.Typed.{ScriptMeant}
 use Rattle.firings.specs.declared.firing.Firing.{Firing}
 use Rattle.firings.specs.Ends.{with_ends}
@@ -68,12 +68,8 @@ module _ (P : Part → Type 0) (board : ClaimBoard) where
   abbrev Works : Part → Type 0
   Works = IsWork P board
 
-  seats_at : (ps : List Part) → All Works ps → All (IsAt board) (map (λ p. p.1) ps)
-  seats_at [] each = λ k d lt. absurd (omega arith)
-  seats_at (p ∷ ps) each = all_cons (IsAt board) p.1 (map (λ q. q.1) ps) (each 0 p (omega arith)).at (seats_at ps (λ k d lt. each (suc k) d (omega arith)))
-
   pub all_at : (pieces : List (ℕ × Piece)) (seats : List ClaimSeat) → AreParts Works pieces seats → All (IsAt board) seats
-  all_at pieces seats are = subst (λ ss. All (IsAt board) ss) (sym are.seated) (seats_at are.parts are.each)
+  all_at pieces seats are = subst (λ ss. All (IsAt board) ss) (sym are.seated) (All-map (IsAt board) (λ (p : Part). p.1) are.parts (λ k d lt. (are.each k d lt).at))
 
   all_told : (ps : List Part) → All Works ps → claim_seats_at_end (map (λ p. p.1) ps) ≡ length (map (λ p. p.1) ps)
   all_told [] each = refl
@@ -138,11 +134,6 @@ least_append (x ∷ xs) ys = here x.1.exit (least_append xs ys)
     here : (e : Option (ℕ × ℕ)) → least_exit (xs ++ ys) ≡ min (least_exit xs) (least_exit ys) → lesser_of (least_exit (xs ++ ys)) e ≡ min (lesser_of (least_exit xs) e) (least_exit ys)
     here None more = more
     here (Some e) more = omega arith
-
-seen_at : (ss : List ClaimSeat) (k : ℕ) (d : ClaimSeat) → k < length ss → least_seen ss ≤ number_seen (get_or ss k d)
-seen_at [] k d lt = absurd (omega arith)
-seen_at (s ∷ ss) zero d lt = omega arith
-seen_at (s ∷ ss) (suc k) d lt = let more = seen_at ss k d (omega arith) in omega arith
 
 module _ (runs : ScriptMeant → Type 0) (groups : Groups) (trace : List Firing) where
   lowered_least : (ps : List Part) → All (GivesBegun number_seen number_lowered runs groups trace) ps → least_lowered (map (λ p. p.1) ps) ≡ least_exit (flat_map (λ p. p.0.items) ps)

@@ -1,9 +1,10 @@
 -- The tests of patterns decide what they are to say.
 use Rattle.std.proofs.Common.{◌≡◌, ◌≢◌, ℕ, suc, ◌==◌, ◌⊎◌, inl, inr, ⊎_elim, ◌↔◌, Bool, true, false}
-use Rattle.std.proofs.Common.{cond, ◌&&◌, ◌||◌, List, [], ◌∷◌, ◌++◌, length, All, refl, sym, ap}
+use Rattle.std.proofs.Common.{cond, ◌&&◌, List, [], ◌∷◌, ◌++◌, length, All, refl, sym, ap}
 use Rattle.std.proofs.Common.{◌∙◌, subst, arith}
 use Rattle.std.specs.Prelude.{not, IsTrue, take, ◌≤◌}
 use Rattle.std.specs.List.{list_all, zip}
+use Rattle.std.proofs.lemmas.Bool.{and_from, and_parts, or_cases, or_left, or_right}
 use Rattle.std.proofs.lemmas.Bool.Decides.{Decides-eqb}
 use Rattle.d_parser.specs.declared.tree.Description.{Description}
 use Rattle.firings.specs.declared.unit.Probe.{Probe}
@@ -13,26 +14,6 @@ use Rattle.replay_core.specs.Steps.Patterns.{is_plain}
 use Rattle.replay_core.specs.Patterns.{passes_after_one, matches, field_matches}
 
 -- ---- tests
-
-pub and_parts : (a b : Bool) → (a && b) ≡ true → (a ≡ true) × (b ≡ true)
-and_parts true b e = (refl, e)
-and_parts false b e = cc
-
-pub and_both : (a b : Bool) → a ≡ true → b ≡ true → (a && b) ≡ true
-and_both true b x y = y
-and_both false b x y = cc
-
-or_cases : (a b : Bool) → (a || b) ≡ true → (a ≡ true) ⊎ (b ≡ true)
-or_cases true b e = inl refl
-or_cases false b e = inr e
-
-or_left : (a b : Bool) → a ≡ true → (a || b) ≡ true
-or_left true b e = refl
-or_left false b e = cc
-
-or_right : (a b : Bool) → b ≡ true → (a || b) ≡ true
-or_right true b e = refl
-or_right false b e = e
 
 not_true : (a : Bool) → not a ≡ true → a ≡ true → ⊥
 not_true true e x = cc
@@ -69,7 +50,7 @@ passes_one p test own rest text plain takes e t =
     let byte = takes_byte p own plain takes in
     let is : text ≡ byte.0 ∷ rest = e ∙ ap (λ l. l ++ rest) byte.1 in
     subst (λ l. passes_after_one p test l ≡ true) (sym is)
-    (and_both (is_same_or_question (p, byte.0)) (test rest) (takes_same p byte.0 plain (subst (Takes p) byte.1 takes)) t)
+    (and_from (is_same_or_question (p, byte.0)) (test rest) (takes_same p byte.0 plain (subst (Takes p) byte.1 takes)) t)
 
 -- ---- runs without stars
 
@@ -93,7 +74,7 @@ fits_back (p ∷ run) text plain m =
     let byte = takes_byte p m.0 own m.3 in
     let is : text ≡ byte.0 ∷ m.1 = m.2 ∙ ap (λ l. l ++ m.1) byte.1 in
     subst (λ l. list_all is_same_or_question (zip (p ∷ run) l) ≡ true) (sym is)
-    (and_both (is_same_or_question (p, byte.0)) (list_all is_same_or_question (zip run m.1))
+    (and_from (is_same_or_question (p, byte.0)) (list_all is_same_or_question (zip run m.1))
     (takes_same p byte.0 own (subst (Takes p) byte.1 m.3))
     (fits_back run m.1 (λ k d lt. plain (suc k) d (omega arith)) m.4))
 
@@ -198,8 +179,8 @@ selected d p = (there, back)
 
     back : Selects d p → IsTrue (selects d p)
     back m =
-        and_both (field_matches d.provider p.provider && field_matches d.«module» p.probemod && field_matches d.function p.probefunc) (field_matches d.name p.name)
-        (and_both (field_matches d.provider p.provider && field_matches d.«module» p.probemod) (field_matches d.function p.probefunc)
-        (and_both (field_matches d.provider p.provider) (field_matches d.«module» p.probemod) ((field_is d.provider p.provider).1 m.provider) ((field_is d.«module» p.probemod).1 m.probemod))
+        and_from (field_matches d.provider p.provider && field_matches d.«module» p.probemod && field_matches d.function p.probefunc) (field_matches d.name p.name)
+        (and_from (field_matches d.provider p.provider && field_matches d.«module» p.probemod) (field_matches d.function p.probefunc)
+        (and_from (field_matches d.provider p.provider) (field_matches d.«module» p.probemod) ((field_is d.provider p.provider).1 m.provider) ((field_is d.«module» p.probemod).1 m.probemod))
         ((field_is d.function p.probefunc).1 m.probefunc))
         ((field_is d.name p.name).1 m.name)

@@ -5,13 +5,14 @@ use Rattle.std.proofs.Common.{get_or, refl, sym, ap, ◌∙◌, subst, ⊎_elim,
 use Rattle.std.proofs.Common.{append-nil, sum_by}
 use Rattle.std.specs.Prelude.{option_map}
 use Rattle.std.specs.Option.{option_or}
-use Rattle.std.proofs.lemmas.Bool.{cases_eq}
+use Rattle.std.proofs.lemmas.Bool.{cases_Bool, cases_eq}
+use Rattle.std.proofs.lemmas.List.Elements.{All-filter}
 use Rattle.std.proofs.lemmas.List.Sums.{sum_by-cons}
 use Rattle.d_types.specs.Clauses.{Made}
 use Rattle.d_types.specs.Typed.{ScriptMeant}
 use Rattle.firings.specs.declared.firing.Firing.{Firing}
 use Rattle.shard_queue.specs.Least.{no_number}
-use Rattle.shard_queue.proofs.Totals.{below-once, weight_of}
+use Rattle.shard_queue.proofs.Totals.{below-once, weight_of, weight_of-other}
 use Rattle.replay_core.specs.declared.lanes.piece.Piece.{Piece}
 use Rattle.replay_core.specs.Beginnings.{ExitsLast, IsBegun, IsBegunOf, IsLeft, exit_over}
 use Rattle.replay_core.specs.Beginnings.{least_exit, lesser_of}
@@ -23,12 +24,11 @@ use Rattle.replay_core.specs.Running.{threads_over}
 use Rattle.replay_core.specs.Seen.{piece_seen}
 use Rattle.replay_core.specs.Working.{IsOfGroup}
 use Rattle.replay_core.proofs.BeginLemmas.{exit_parts}
-use Rattle.replay_core.proofs.Collectable.{weight-other}
-use Rattle.replay_core.proofs.ExitLemmas.{Rises, late}
-use Rattle.replay_core.proofs.GroupSums.{AllIn, own_group, part, passed, taken, truth}
-use Rattle.replay_core.proofs.GroupTexts.{Climbs, Over, group_in, grouped_history, over_climbs}
+use Rattle.replay_core.proofs.ExitLemmas.{Rises, late, some_is}
+use Rattle.replay_core.proofs.GroupSums.{AllIn, own_group, part, passed, taken}
+use Rattle.replay_core.proofs.GroupTexts.{Climbs, Over, group_in, grouped_history, over_climbs, over_history}
 use Rattle.replay_core.proofs.Restricting.{group_restricts}
-use Rattle.replay_core.proofs.TraceRuns.{Rising, all_kept, rising_kept, rising_rest}
+use Rattle.replay_core.proofs.TraceRuns.{Rising, rising_kept, rising_rest}
 
 -- ---- the exits of parts
 
@@ -37,12 +37,9 @@ over_at : (p : Firing × Made → Bool) (n : ℕ) (r : List (Firing × Made)) (y
 over_at p n [] y over e = absurd cc
 over_at p n (a ∷ r) y over e = here (p a) (λ f. let more = over_at p a.0.number r y over.1 f in let lt = over.0 in omega arith) e
   where
-    some_is : (x : ℕ × ℕ) → ◌≡◌ {A = Option (ℕ × ℕ)} (Some x) (Some y) → x ≡ y
-    some_is x f = cc
-
     at' : (o : Option ℕ) → (exit_of (filter p r) ≡ Some y → n < y.0) → option_or (option_map (λ status. (a.0.number, status)) o) (exit_of (filter p r)) ≡ Some y → n < y.0
     at' None more f = more f
-    at' (Some s) more f = subst (λ (x : ℕ × ℕ). n < x.0) (some_is (a.0.number, s) f) over.0
+    at' (Some s) more f = subst (λ (x : ℕ × ℕ). n < x.0) (some_is (a.0.number, s) y f) over.0
 
     here : (b : Bool) → (exit_of (filter p r) ≡ Some y → n < y.0) → exit_of (cond b (a ∷ filter p r) (filter p r)) ≡ Some y → n < y.0
     here true more f = at' a.1.exit more f
@@ -52,9 +49,6 @@ first_before : (p : Firing × Made → Bool) (r : List (Firing × Made)) (x y : 
 first_before p [] x y up e f = absurd cc
 first_before p (a ∷ r) x y up e f = here a.1.exit (λ g h. first_before p r x y (over_climbs a.0.number r up) g h) refl e
   where
-    some_is : (z w : ℕ × ℕ) → ◌≡◌ {A = Option (ℕ × ℕ)} (Some z) (Some w) → z ≡ w
-    some_is z w g = cc
-
     not_less : (b : Bool) (o : Option ℕ) → a.1.exit ≡ o → exit_of (cond b (a ∷ filter p r) (filter p r)) ≡ Some y → a.0.number ≤ y.0
     not_less true None is g = let lt = over_at p a.0.number r y up (sym (ap (λ o. option_or (option_map (λ status. (a.0.number, status)) o) (exit_of (filter p r))) is) ∙ g) in omega arith
     not_less true (Some s) is g =
@@ -103,7 +97,7 @@ attained group n (a ∷ r) x each e = here a.1.exit (λ f. attained group n r x 
           ⊎_elim
               (λ (b : is_group more.0 (group a) ≡ true). ap exit_of (taken group more.0 a r b) ∙ with_exit None (exit_of (part group more.0 r)) is ∙ more.2)
               (λ (b : is_group more.0 (group a) ≡ false). ap exit_of (passed group more.0 a r b) ∙ more.2)
-              (truth (is_group more.0 (group a))),
+              (cases_Bool (is_group more.0 (group a))),
         )
     here (Some s) rest is f =
         let own = own_group n (group a) (each 0 a (omega arith)) in
@@ -146,18 +140,10 @@ has_piece g [] e = absurd (omega arith)
 has_piece g (p ∷ ps) e = ⊎_elim
     (λ (same : p.0 ≡ g). (p, 0, omega arith, refl, same))
     (λ (ne : p.0 ≡ g → ⊥).
-    let none = weight-other g p.0 ne in
+    let none = weight_of-other g p.0 ne in
     let cons = sum_by-cons (weight_of g) p.0 (map (λ q. q.0) ps) in
     let more = has_piece g ps (omega arith) in (more.0, suc more.1, let lt = more.2 in omega arith, more.3, more.4))
     (cases_eq p.0 g)
-
-least_under : (ps : List (ℕ × Piece)) → least_exit ps ≤ no_number
-least_under [] = omega arith
-least_under (p ∷ ps) = here p.1.exit (least_under ps)
-  where
-    here : (e : Option (ℕ × ℕ)) → least_exit ps ≤ no_number → lesser_of (least_exit ps) e ≤ no_number
-    here None more = more
-    here (Some e) more = omega arith
 
 least_over : (n : ℕ) (ps : List (ℕ × Piece)) → n ≤ no_number → All (λ p. (y : ℕ × ℕ) → p.1.exit ≡ Some y → n ≤ y.0) ps → n ≤ least_exit ps
 least_over n [] small each = small
@@ -184,9 +170,6 @@ exit_small : (m : ScriptMeant) (fs : List Firing) (threads : Threads) (x : ℕ �
 exit_small m [] threads x small e = absurd cc
 exit_small m (f ∷ fs) threads x small e = here (firing_result m f (threads f.thread)).exit (exit_small m fs (threads_after m f threads) x (λ k d lt. small (suc k) d (omega arith))) e
   where
-    some_is : (z w : ℕ × ℕ) → ◌≡◌ {A = Option (ℕ × ℕ)} (Some z) (Some w) → z ≡ w
-    some_is z w g = cc
-
     here : (o : Option ℕ) → (exit_of (history m fs (threads_after m f threads)) ≡ Some x → x.0 < no_number)
         → option_or (option_map (λ status. (f.number, status)) o) (exit_of (history m fs (threads_after m f threads))) ≡ Some x → x.0 < no_number
     here None more g = more g
@@ -226,13 +209,9 @@ module _ (m : ScriptMeant) (grouping : Grouping) (fs : List Firing) (least : ℕ
       (either k d lt)) in
       omega arith
     where
-      climbs_from : (n : ℕ) (gs : List Firing) (threads : Threads) → Rises n gs → Over n (history m gs threads)
-      climbs_from n [] threads r = tt
-      climbs_from n (f ∷ gs) threads r = (r.0, climbs_from f.number gs (threads_after m f threads) r.1)
-
       climbs_all : (gs : List Firing) (threads : Threads) → Rising gs → Climbs (history m gs threads)
       climbs_all [] threads r = tt
-      climbs_all (f ∷ gs) threads r = climbs_from f.number gs (threads_after m f threads) r
+      climbs_all (f ∷ gs) threads r = over_history m f.number gs (threads_after m f threads) r
 
   -- so where there is no number no firing exits
   pub least_none : least ≡ no_number → exit_over m fs ≡ None
@@ -278,5 +257,5 @@ pub pieces_whole : (m : ScriptMeant) (grouping : Grouping) (fs : List Firing) (p
 pieces_whole m grouping fs ps small none begun k d lt =
     let p = get_or ps k d in
     let p_in = λ (f : Firing). is_group p.0 (grouping.group f.thread) in
-    begun_whole m (of_group grouping p.0 fs) p.1 (all_kept (λ f. f.number < no_number) p_in fs small)
+    begun_whole m (of_group grouping p.0 fs) p.1 (All-filter p_in (λ f. f.number < no_number) fs small)
     (ap exit_of (group_restricts m grouping fs p.0) ∙ none_in (λ x. is_group p.0 (group_in grouping x)) (history m fs blank_threads) none) (begun k d lt)

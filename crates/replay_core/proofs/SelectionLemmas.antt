@@ -7,7 +7,7 @@ use Rattle.std.specs.List.{AllZip}
 use Rattle.std.proofs.Common.{refl, ap, ◌∙◌, subst, sym, arith, get_or, ⊎_elim}
 use Rattle.std.proofs.Common.{take}
 use Rattle.std.proofs.lemmas.List.{get_or-map, length-map, map-append, take_more}
-use Rattle.std.proofs.lemmas.List.Elements.{All-cons}
+use Rattle.std.proofs.lemmas.List.Elements.{All-map}
 use Rattle.std.proofs.lemmas.Option.{get_or_from_slice_get, slice_get-map, slice_get_within}
 use Rattle.firings.specs.declared.unit.Probe.{Probe}
 use Rattle.firings.specs.Ends.{begin_of, end_of, with_ends}
@@ -22,7 +22,7 @@ use Rattle.replay_core.specs.Selecting.{AreFor, lent, list_at, selected_for, sel
 -- ---- lists by index
 
 -- an element of the first of two lists
-slice_get_left : {A : Type 0} (xs ys : List A) (i : ℕ) (x : A) → slice_get xs i ≡ Some x → slice_get (xs ++ ys) i ≡ Some x
+pub slice_get_left : {A : Type 0} (xs ys : List A) (i : ℕ) (x : A) → slice_get xs i ≡ Some x → slice_get (xs ++ ys) i ≡ Some x
 slice_get_left [] ys i x there = absurd cc
 slice_get_left (y ∷ xs) ys zero x there = there
 slice_get_left (y ∷ xs) ys (suc i) x there = slice_get_left xs ys i x there
@@ -86,8 +86,7 @@ zip_length R (x ∷ xs) [] zip = absurd zip
 zip_length R (x ∷ xs) (y ∷ ys) zip = ap suc (zip_length R xs ys zip.1)
 
 pub selected_few : (own : Firing → List ℕ) (most : ℕ) (fs : List Firing) → ((f : Firing) → length (own f) ≤ most) → All (λ indices. length indices ≤ most) (map own fs)
-selected_few own most [] few = λ k d lt. absurd (omega arith)
-selected_few own most (f ∷ fs) few = All-cons (λ (indices : List ℕ). length indices ≤ most) (own f) (map own fs) (few f) (selected_few own most fs few)
+selected_few own most fs few = All-map (λ (indices : List ℕ). length indices ≤ most) own fs (λ k f lt. few (get_or fs k f))
 
 module _ (m : ScriptMeant) (trace : List Firing) (selected : List (List ℕ)) (are : AreFor trace selected m) where
   -- the indices that are lent for a firing are those of its clauses

@@ -4,8 +4,7 @@ use Rattle.std.specs.Prelude.{false, ◌==◌, if◌then◌else◌, length}
 use Rattle.std.specs.Ordering.{int_eq}
 use Rattle.std.proofs.Common.{refl, arith, sym, ap, ◌∙◌, subst}
 use Rattle.std.proofs.lemmas.Bool.Decides.{Decides-eqb, Decides-int_eq}
-use Rattle.std.proofs.lemmas.List.Elements.{All-append}
-use Rattle.d_parser.specs.declared.tree.Description.{Description}
+use Rattle.std.proofs.lemmas.List.Elements.{All-append, All-map}
 use Rattle.d_values.specs.declared.key.KeyPart.{KeyPart}
 use Rattle.d_values.specs.declared.value.Value.{Value}
 use Rattle.d_values.specs.declared.variable.Var.{Var}
@@ -53,34 +52,28 @@ none_turn f cs (index ∷ indices) start none =
 
 -- ---- types
 
+-- what holds of all clauses holds of those that a firing runs
+pub for_all : (P : ClauseMeant → Type 0) (f : Firing) (index : ℕ) (cs : List ClauseMeant) → All P cs → All (λ x. P x.1) (clauses_for f index cs)
+for_all P f index [] each = λ k d lt. absurd (omega arith)
+for_all P f index (c ∷ cs) each =
+    let own = filter (λ d. selects d (probe_of f)) c.descriptions in
+    All-append (λ x. P x.1) (map (λ d. (index, c)) own) (clauses_for f (suc index) cs)
+    (All-map (λ x. P x.1) (λ d. (index, c)) own (λ k d lt. each 0 c (omega arith)))
+    (for_all P f (suc index) cs (λ k d lt. each (suc k) d (omega (arith, lt))))
+
 module _ (slots : Slots) (f : Firing) (fit : HasTypedBuiltIns f) where
   -- clauses that run one after the other keep the variables' types
-  abbrev AllKeep : List (ℕ × ClauseMeant) → Type 0
-  AllKeep cs = All (λ c. Keeps slots c.1) cs
-
-  turn_kept : (cs : List (ℕ × ClauseMeant)) (vars : Variables) → AllKeep cs → AreTyped slots vars → AreTyped slots (in_turn f cs vars).variables
+  turn_kept : (cs : List (ℕ × ClauseMeant)) (vars : Variables) → All (λ c. Keeps slots c.1) cs → AreTyped slots vars → AreTyped slots (in_turn f cs vars).variables
   turn_kept [] vars keep typed = typed
   turn_kept (c ∷ cs) vars keep typed =
       turn_kept cs (run_of f c.0 c.1 vars).variables (λ k d lt. keep (suc k) d (omega (arith, lt)))
       (keep 0 c (omega arith) f c.0 vars fit typed)
 
-  same_kept : (index : ℕ) (c : ClauseMeant) (ds : List Description) → Keeps slots c → AllKeep (map (λ d. (index, c)) ds)
-  same_kept index c [] keep k d lt = absurd (omega arith)
-  same_kept index c (x ∷ ds) keep zero d lt = keep
-  same_kept index c (x ∷ ds) keep (suc k) d lt = same_kept index c ds keep k d (omega (arith, lt))
-
-  for_kept : (index : ℕ) (cs : List ClauseMeant) → All (Keeps slots) cs → AllKeep (clauses_for f index cs)
-  for_kept index [] keep = λ k d lt. absurd (omega arith)
-  for_kept index (c ∷ cs) keep =
-      All-append (λ x. Keeps slots x.1) (map (λ d. (index, c)) (filter (λ d. selects d (probe_of f)) c.descriptions)) (clauses_for f (suc index) cs)
-      (same_kept index c (filter (λ d. selects d (probe_of f)) c.descriptions) (keep 0 c (omega arith)))
-      (for_kept (suc index) cs (λ k d lt. keep (suc k) d (omega (arith, lt))))
-
 pub typed_after : (m : ScriptMeant) (f : Firing) (threads : Threads) → All (Keeps (slots_of m)) m.clauses → HasTypedBuiltIns f
     → AreTypedThreads (slots_of m) threads → AreTypedThreads (slots_of m) (threads_after m f threads)
 typed_after m f threads keep fit typed thread =
     elim (int_eq thread f.thread) as (λ b. AreTypedOwn (slots_of m) (if b then (firing_result m f (threads f.thread)).variables.own else threads thread)) [
-      | true ↦ (turn_kept (slots_of m) f fit (clauses_for f 1 m.clauses) (at_start (threads f.thread)) (for_kept (slots_of m) f fit 1 m.clauses keep)
+      | true ↦ (turn_kept (slots_of m) f fit (clauses_for f 1 m.clauses) (at_start (threads f.thread)) (for_all (Keeps (slots_of m)) f 1 m.clauses keep)
           (locals_unassigned (slots_of m), typed f.thread)).1
       | false ↦ typed thread
     ]

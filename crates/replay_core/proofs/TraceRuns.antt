@@ -7,7 +7,8 @@ use Rattle.std.specs.Prelude.{ℤ, IsSomeAnd, nat_le}
 use Rattle.std.specs.List.Sorted.{IsStrictlyIncreasing}
 use Rattle.std.proofs.lemmas.Bool.{le-leb}
 use Rattle.std.proofs.lemmas.List.{map-append}
-use Rattle.std.proofs.lemmas.List.Elements.{All-append, All-get_or}
+use Rattle.std.proofs.lemmas.List.Elements.{All-append, All-filter, All-get_or}
+use Rattle.std.proofs.lemmas.List.Sums.{count_by-le-length, length-filter}
 use Rattle.std.proofs.lemmas.Option.{slice_get-get_or}
 use Rattle.d_types.specs.Typed.{ScriptMeant}
 use Rattle.firings.specs.declared.firing.Firing.{Firing}
@@ -25,6 +26,7 @@ use Rattle.replay_core.specs.Groups.{AreGrouped, Grouping}
 use Rattle.replay_core.specs.Working.{firings_in, is_in}
 use Rattle.replay_core.specs.declared.workers.span.Span.TheVariants as span
 use Rattle.replay_core.proofs.ExitLemmas.{Rises, rises_less, trace_rises}
+use Rattle.replay_core.proofs.SelectionLemmas.{slice_get_left}
 
 pub threads_are : (trace : List Firing) → map thread_of (with_ends trace trace) ≡ run_threads trace
 threads_are trace = ap (λ l. thread_zero ∷ l) (map-append thread_of trace (end_of trace ∷ []))
@@ -39,17 +41,11 @@ all_count (f ∷ fs) = ap (λ l. f ∷ l) (all_count fs)
 
 -- ---- indices
 
-in_front : (xs ys : List Firing) (k : ℕ) (f : Firing) → slice_get xs k ≡ Some f → slice_get (xs ++ ys) k ≡ Some f
-in_front [] ys zero f e = absurd cc
-in_front [] ys (suc k) f e = absurd cc
-in_front (x ∷ xs) ys zero f e = e
-in_front (x ∷ xs) ys (suc k) f e = in_front xs ys k f e
-
 pub at_row : (trace : List Firing) (index : ℕ) (f : Firing) → 0 < index → slice_get trace (index - 1) ≡ Some f → slice_get (with_ends trace trace) index ≡ Some f
 at_row trace zero f some e = absurd (omega arith)
 at_row trace (suc k) f some e =
     let same : suc k - 1 ≡ k = omega arith in
-    in_front trace (end_of trace ∷ []) k f (subst (λ j. slice_get trace j ≡ Some f) same e)
+    slice_get_left trace (end_of trace ∷ []) k f (subst (λ j. slice_get trace j ≡ Some f) same e)
 
 at_last : (xs : List Firing) (k : ℕ) (f : Firing) → k ≡ length xs → slice_get (xs ++ f ∷ []) k ≡ Some f
 at_last [] zero f e = refl
@@ -105,12 +101,7 @@ pub counted_rise : (s : Span) (trace : List Firing) → IsTrace trace → IsStri
 counted_rise s trace is = climbing (firings_in s trace) (rising_kept (is_in s) (with_ends trace trace) (trace_rises trace is))
 
 pub few_kept : (p : Firing → Bool) (fs : List Firing) → length (filter p fs) ≤ length fs
-few_kept p [] = omega arith
-few_kept p (f ∷ fs) = here (p f) (few_kept p fs)
-  where
-    here : (b : Bool) → length (filter p fs) ≤ length fs → length (cond b (f ∷ filter p fs) (filter p fs)) ≤ suc (length fs)
-    here true le = omega arith
-    here false le = omega arith
+few_kept p fs = rw (length-filter p fs) (count_by-le-length p fs)
 
 pub counted_few : (s : Span) (trace : List Firing) → IsTrace trace → length (firings_in s trace) ≤ 1000002
 counted_few s trace is = let some = few_kept (is_in s) (with_ends trace trace) in let all = run_few trace is in omega arith
@@ -122,18 +113,10 @@ grouped_by_threads grouping [] each = λ k d lt. absurd (omega arith)
 grouped_by_threads grouping (f ∷ fs) each =
     all_cons (λ f. IsSomeAnd (grouping.group f.thread) (λ g. g < grouping.count)) f fs (each 0 f.thread (omega arith)) (grouped_by_threads grouping fs (λ k d lt. each (suc k) d (omega arith)))
 
-grouped_kept : (grouping : Grouping) (p : Firing → Bool) (fs : List Firing) → AreGrouped grouping fs → AreGrouped grouping (filter p fs)
-grouped_kept grouping p [] each = λ k d lt. absurd (omega arith)
-grouped_kept grouping p (f ∷ fs) each = here (p f) (grouped_kept grouping p fs (λ k d lt. each (suc k) d (omega arith)))
-  where
-    here : (b : Bool) → AreGrouped grouping (filter p fs) → AreGrouped grouping (cond b (f ∷ filter p fs) (filter p fs))
-    here true more = all_cons (λ f. IsSomeAnd (grouping.group f.thread) (λ g. g < grouping.count)) f (filter p fs) (each 0 f (omega arith)) more
-    here false more = more
-
 pub counted_grouped : (s : Span) (groups : Groups) (trace : List Firing) → AreOf groups (run_threads trace) → AreGrouped (grouping groups) (firings_in s trace)
 counted_grouped s groups trace are =
     let P = λ (t : ℤ). IsSomeAnd ((grouping groups).group t) (λ g. g < (grouping groups).count) in
-    grouped_kept (grouping groups) (is_in s) (with_ends trace trace) (grouped_by_threads (grouping groups) (with_ends trace trace) (subst (λ (ts : List ℤ). All P ts) (sym (threads_are trace)) are.each))
+    All-filter (is_in s) (λ (f : Firing). P f.thread) (with_ends trace trace) (grouped_by_threads (grouping groups) (with_ends trace trace) (subst (λ (ts : List ℤ). All P ts) (sym (threads_are trace)) are.each))
 
 -- where there is a firing there is a group
 pub some_group : (groups : Groups) (trace : List Firing) → AreOf groups (run_threads trace) → 0 < (grouping groups).count
@@ -198,11 +181,3 @@ numbers_small trace is =
     all_cons P (begin_of trace) (trace ++ end_of trace ∷ []) (omega arith)
     (All-append P trace (end_of trace ∷ []) (λ k d lt. let le = (is.firings k d lt).number.1 in omega arith)
     (all_cons P (end_of trace) [] (let le = number_small trace is in omega arith) (λ k d lt. absurd (omega arith))))
-
-pub all_kept : (P : Firing → Type 0) (p : Firing → Bool) (fs : List Firing) → All P fs → All P (filter p fs)
-all_kept P p [] each = λ k d lt. absurd (omega arith)
-all_kept P p (f ∷ fs) each = here (p f) (all_kept P p fs (λ k d lt. each (suc k) d (omega arith)))
-  where
-    here : (b : Bool) → All P (filter p fs) → All P (cond b (f ∷ filter p fs) (filter p fs))
-    here true more = all_cons P f (filter p fs) (each 0 f (omega arith)) more
-    here false more = more

@@ -1,10 +1,12 @@
 -- Without an exit every firing counts.
-use Rattle.std.specs.Prelude.{◌≡◌, ℕ, zero, suc, List, [], ◌∷◌, ◌++◌, filter, map, Bool, true}
-use Rattle.std.specs.Prelude.{false, ◌||◌, if◌then◌else◌, Option, None, Some, is_some, option_map}
+use Rattle.std.specs.Prelude.{◌≡◌, ℕ, zero, suc, List, [], ◌∷◌, ◌++◌, true}
+use Rattle.std.specs.Prelude.{false, if◌then◌else◌, Option, None, Some, is_some, option_map}
 use Rattle.std.specs.Prelude.{unwrap_or}
-use Rattle.std.specs.List.{list_any}
+use Rattle.std.specs.List.{All, list_any}
 use Rattle.std.specs.Option.{option_or}
 use Rattle.std.proofs.Common.{refl, sym, ap, ◌∙◌}
+use Rattle.std.proofs.lemmas.Bool.{or_parts}
+use Rattle.std.proofs.lemmas.List.Elements.{All-cons, All-head, All-nil, All-tail}
 use Rattle.d_types.specs.declared.effect.Effect.{Effect}
 use Rattle.d_types.specs.declared.effect.Effect.TheVariants as ef
 use Rattle.d_types.specs.Typed.{Typed, Typeds, Action, Evaluate, Trace, Print, Exit}
@@ -19,15 +21,11 @@ use Rattle.firings.specs.Firings.{IsTrace}
 use Rattle.replay_core.specs.Exit.{exit_status, firings_over, history_over, up_to}
 use Rattle.replay_core.specs.Meaning.{Threads, clauses_for, exit_of, history, in_turn}
 use Rattle.replay_core.specs.Meaning.{firing_result, threads_after, blank_threads}
-use Rattle.replay_core.specs.Patterns.{probe_of, selects}
 use Rattle.replay_core.specs.Steps.EffectRuns.{Ran, effect_then, exit_in, statements_by}
 use Rattle.replay_core.specs.Steps.EffectRuns.{where_predicate, where_true}
 use Rattle.replay_core.proofs.EffectRuns.{run_by_is}
 use Rattle.replay_core.proofs.ExitLemmas.{firings_are, until_exit}
-
-either : (a b : Bool) → (a || b) ≡ false → (a ≡ false) × (b ≡ false)
-either true b e = absurd (let c : true ≡ false = e in cc)
-either false b e = (refl, e)
+use Rattle.replay_core.proofs.ThreadLemmas.{for_all}
 
 -- ---- a run of a clause
 
@@ -66,7 +64,7 @@ module _ (by : Evaluation Typed Typeds) where
   statements_go : (all : List Action) (vars : Variables) → list_any (λ a. is_exit a) all ≡ false → exit_in (statements_by by all vars).effects ≡ None
   statements_go [] vars without = refl
   statements_go (a ∷ rest) vars without =
-      let both = either (is_exit a) (list_any (λ a. is_exit a) rest) without in
+      let both = or_parts (is_exit a) (list_any (λ a. is_exit a) rest) without in
       followed_goes (effect_by by a vars) (statements_by by rest) (effect_goes a vars both.0) (λ vars. statements_go rest vars both.1)
 
   where_goes : (o : Outcome ℕ) (go : Variables → Ran) → ((vars : Variables) → exit_in (go vars).effects ≡ None) → exit_in (where_true o go).effects ≡ None
@@ -80,39 +78,29 @@ module _ (by : Evaluation Typed Typeds) where
 
 -- ---- a firing
 
-abbrev AllGo : List (ℕ × ClauseMeant) → Type 0
-AllGo [] = Unit {0}
-AllGo (c ∷ cs) = (list_any (λ a. is_exit a) c.1.statements ≡ false) × AllGo cs
+abbrev ClauseGoes : ClauseMeant → Type 0
+ClauseGoes c = list_any (λ a. is_exit a) c.statements ≡ false
 
-all_append : (xs ys : List (ℕ × ClauseMeant)) → AllGo xs → AllGo ys → AllGo (xs ++ ys)
-all_append [] ys a b = b
-all_append (x ∷ xs) ys a b = (a.0, all_append xs ys a.1 b)
+clauses_go : (cs : List ClauseMeant) → list_any (λ c. list_any (λ a. is_exit a) c.statements) cs ≡ false → All ClauseGoes cs
+clauses_go [] without = All-nil ClauseGoes
+clauses_go (c ∷ cs) without =
+    let both = or_parts (list_any (λ a. is_exit a) c.statements) (list_any (λ c. list_any (λ a. is_exit a) c.statements) cs) without in
+    All-cons ClauseGoes c cs both.0 (clauses_go cs both.1)
 
-all_placed : {D : Type 0} (index : ℕ) (c : ClauseMeant) (ds : List D) → list_any (λ a. is_exit a) c.statements ≡ false → AllGo (map (λ d. (index, c)) ds)
-all_placed index c [] without = tt
-all_placed index c (d ∷ ds) without = (without, all_placed index c ds without)
-
-clauses_go : (f : Firing) (index : ℕ) (cs : List ClauseMeant) → list_any (λ c. list_any (λ a. is_exit a) c.statements) cs ≡ false → AllGo (clauses_for f index cs)
-clauses_go f index [] without = tt
-clauses_go f index (c ∷ cs) without =
-    let both = either (list_any (λ a. is_exit a) c.statements) (list_any (λ c. list_any (λ a. is_exit a) c.statements) cs) without in
-    all_append (map (λ d. (index, c)) (filter (λ d. selects d (probe_of f)) c.descriptions)) (clauses_for f (suc index) cs)
-    (all_placed index c (filter (λ d. selects d (probe_of f)) c.descriptions) both.0) (clauses_go f (suc index) cs both.1)
-
-turn_goes : (f : Firing) (cs : List (ℕ × ClauseMeant)) (vars : Variables) → AllGo cs → (in_turn f cs vars).exit ≡ None
+turn_goes : (f : Firing) (cs : List (ℕ × ClauseMeant)) (vars : Variables) → All (λ c. ClauseGoes c.1) cs → (in_turn f cs vars).exit ≡ None
 turn_goes f [] vars all = refl
 turn_goes f (c ∷ cs) vars all =
     let first = run_of f c.0 c.1 vars in
     let noted = run_by_is (by_trees f) (fault_line f.number c.0) c.1.predicate c.1.statements vars in
-    let none : first.exit ≡ None = ap (λ (m : Made). m.exit) noted ∙ guarded_goes (by_trees f) c.1.predicate c.1.statements vars all.0 in
-    ap (λ o. option_or o (in_turn f cs first.variables).exit) none ∙ turn_goes f cs first.variables all.1
+    let none : first.exit ≡ None = ap (λ (m : Made). m.exit) noted ∙ guarded_goes (by_trees f) c.1.predicate c.1.statements vars (All-head (λ c. ClauseGoes c.1) c cs all) in
+    ap (λ o. option_or o (in_turn f cs first.variables).exit) none ∙ turn_goes f cs first.variables (All-tail (λ c. ClauseGoes c.1) c cs all)
 
 -- ---- a run
 
 history_goes : (m : ScriptMeant) (fs : List Firing) (threads : Threads) → has_exit m ≡ false → exit_of (history m fs threads) ≡ None
 history_goes m [] threads without = refl
 history_goes m (f ∷ fs) threads without =
-    let none : (firing_result m f (threads f.thread)).exit ≡ None = turn_goes f (clauses_for f 1 m.clauses) _ (clauses_go f 1 m.clauses without) in
+    let none : (firing_result m f (threads f.thread)).exit ≡ None = turn_goes f (clauses_for f 1 m.clauses) _ (for_all ClauseGoes f 1 m.clauses (clauses_go m.clauses without)) in
     ap (λ o. option_or (option_map (λ status. (f.number, status)) o) (exit_of (history m fs (threads_after m f threads)))) none
     ∙ history_goes m fs (threads_after m f threads) without
 

@@ -11,7 +11,7 @@ use Rattle.dif_machine.specs.Machine.{Knows}
 use Rattle.replay_core.specs.Seen.{piece_seen}
 use Rattle.replay_core.specs.WordStore.{WordsSeen, words_seen}
 use Rattle.replay_core.proofs.EffectLemmas.{adds}
-use Rattle.replay_core.proofs.KeyLemmas.{key_kept}
+use Rattle.dif_machine.proofs.Holding.{key_kept}
 use Rattle.replay_core.proofs.StateLemmas.{stays_then}
 use Rattle.replay_core.proofs.statements.objects.aggregate.Goals as goal
 
