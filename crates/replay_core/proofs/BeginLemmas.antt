@@ -1,5 +1,5 @@
 -- Beginnings of a group's firings.
-use Rattle.std.proofs.Common.{◌≡◌, ℕ, zero, suc, ◌+◌, ◌<◌, ◌≤◌, min, true, false, List}
+use Rattle.std.proofs.Common.{◌≡◌, ℕ, ◌+◌, ◌<◌, ◌≤◌, min, true, false, List}
 use Rattle.std.proofs.Common.{[], ◌∷◌, ◌++◌, Option, None, Some, is_some, length, drop}
 use Rattle.std.proofs.Common.{take, get_or, slice_get, refl, sym, ap, ◌∙◌, ⊎_elim, inl, inr}
 use Rattle.std.proofs.Common.{arith, append-nil}

@@ -1,5 +1,5 @@
 -- Descriptions, found by the names that they give.
-use Rattle.std.proofs.Common.{◌≡◌, ℕ, zero, suc, ◌+◌, ◌<◌, ◌≤◌, ◌==◌, ◌&&◌, ◌||◌, Bool, true}
+use Rattle.std.proofs.Common.{◌≡◌, ℕ, suc, ◌+◌, ◌<◌, ◌≤◌, ◌==◌, ◌&&◌, ◌||◌, Bool, true}
 use Rattle.std.proofs.Common.{false, cond, List, [], ◌∷◌, ◌++◌, All, Bor, Option, None, Some, filter}
 use Rattle.std.proofs.Common.{map, length, drop, get_or, refl, sym, ap, ap₂, ◌∙◌, subst, arith}
 use Rattle.std.proofs.Common.{add-one, append_assoc, eq-eqb, nat_lt}
@@ -28,7 +28,7 @@ use Rattle.replay_core.specs.Steps.Patterns.{is_plain}
 use Rattle.replay_core.specs.Indices.{indices_for}
 use Rattle.replay_core.specs.Steps.Indices.{merge}
 use Rattle.replay_core.specs.Uniting.{AllFrom, InOrder, with_number}
-use Rattle.replay_core.proofs.PatternTests.{literal, matches_there}
+use Rattle.replay_core.proofs.PatternTests.{all4, literal, matches_there}
 use Rattle.replay_core.proofs.IndicesMerged.{AreFrom, Rise, merges}
 
 -- the indices of those that select the probe
@@ -42,19 +42,6 @@ exact_field [] [] text same plain m = refl
 exact_field [] (b ∷ d) text same plain m = cc
 exact_field (a ∷ like) [] text same plain m = cc
 exact_field (a ∷ like) (b ∷ d) text same plain m = (literal (b ∷ d) text plain).1 (matches_there (b ∷ d) text m)
-
-record All4 (a b c d : Bool) : Type 0 where
-  pub first : a ≡ true
-  pub second : b ≡ true
-  pub third : c ≡ true
-  pub fourth : d ≡ true
-
-all4 : (a b c d : Bool) → (a && b && c && d) ≡ true → All4 a b c d
-all4 a b c d e =
-    let three = and_parts (a && b && c) d e in
-    let two = and_parts (a && b) c three.0 in
-    let one = and_parts a b two.0 in
-    record { first = one.0; second = one.1; third = two.1; fourth = three.1 }
 
 exact_hash : (key : HashKey) (like d : Description) (p : Probe) → is_exact d ≡ true → GiveSame like d → selects d p ≡ true → hash_of_description key d ≡ hash_of_probe key like p
 exact_hash key like d p exact same sel =

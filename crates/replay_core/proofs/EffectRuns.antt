@@ -2,7 +2,7 @@
 use Rattle.std.specs.Prelude.{◌≡◌, ℕ, zero, suc, List, [], ◌∷◌, ◌++◌, Option, None, Some}
 use Rattle.std.specs.Prelude.{if◌then◌else◌}
 use Rattle.std.specs.Option.{option_or}
-use Rattle.std.proofs.Common.{refl, ap, ◌∙◌, append_assoc}
+use Rattle.std.proofs.Common.{refl, sym, ap, ◌∙◌, append_assoc}
 use Rattle.d_types.specs.declared.effect.Effect.{Effect}
 use Rattle.d_types.specs.declared.effect.Effect.TheVariants as ef
 use Rattle.d_types.specs.Clauses.{Evaluation, Made, and_then, effect_by, effect_result, go_on}
@@ -14,10 +14,7 @@ use Rattle.replay_core.specs.Steps.EffectRuns.{Ran, contributions_in, effect_the
 use Rattle.replay_core.specs.Steps.EffectRuns.{run_result, statements_by, texts_in, where_true}
 use Rattle.replay_core.proofs.EffectLemmas.{made_of}
 use Rattle.replay_core.proofs.Noting.{append_nil, or_none}
-
-or_assoc : (a b c : Option ℕ) → option_or (option_or a b) c ≡ option_or a (option_or b c)
-or_assoc None b c = refl
-or_assoc (Some s) b c = refl
+use Rattle.replay_core.proofs.RunLemmas.{exit_first}
 
 -- what effects make after what was made before them; a fault's line takes the place of all texts
 abbrev made_after : List ℕ → Made → Ran → Made
@@ -48,7 +45,7 @@ joined line before one ran =
     ∙ ap (λ c. made_of (if ran.faulted then line ∷ [] else before.texts ++ (one.texts ++ ts)) c (option_or (option_or before.exit one.exit) e) ran.variables)
     (append_assoc before.contributions one.contributions cs)
     ∙ ap (λ x. made_of (if ran.faulted then line ∷ [] else before.texts ++ (one.texts ++ ts)) (before.contributions ++ (one.contributions ++ cs)) x ran.variables)
-    (or_assoc before.exit one.exit e)
+    (sym (exit_first before.exit one.exit e))
 
 -- a statement, and then those after it
 one_then : (line : List ℕ) (before : Made) (o : Outcome Effect) (go : Made → Made) (ran : Variables → Ran)

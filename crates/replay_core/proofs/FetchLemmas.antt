@@ -14,6 +14,7 @@ use Rattle.replay_core.specs.Working.{is_in}
 use Rattle.replay_core.specs.Steps.Working.{firings_at}
 use Rattle.replay_core.specs.Vocabulary.{with_ends}
 use Rattle.replay_core.proofs.TraceRuns.{at_row, few_kept}
+use Rattle.replay_core.proofs.WorkSteps.{few_firings}
 
 -- ---- rows
 
@@ -38,18 +39,10 @@ mapped_at f made indices i lt are = ap (λ l. slice_get l i) are ∙ slice_get-m
 
 -- ---- blocks
 
-few_indices : (fs : List Firing) (indices : List ℕ) → length (firings_at fs indices) ≤ length indices
-few_indices fs [] = omega arith
-few_indices fs (p ∷ indices) = first (drop p fs) (few_indices fs indices)
-  where
-    first : (l : List Firing) → length (firings_at fs indices) ≤ length indices → length (take 1 l ++ firings_at fs indices) ≤ suc (length indices)
-    first [] le = omega arith
-    first (x ∷ l) le = omega arith
-
 pub few_counted : (span : Span) (fs : List Firing) (indices : List ℕ) → length (filter (is_in span) (firings_at fs indices)) ≤ length indices
 few_counted span fs indices =
     let a = few_kept (is_in span) (firings_at fs indices) in
-    let b = few_indices fs indices in
+    let b = few_firings fs indices in
     omega arith
 
 pub block_more : (span : Span) (fs : List Firing) (done block : List ℕ)

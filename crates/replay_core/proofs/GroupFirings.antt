@@ -3,6 +3,7 @@ use Rattle.std.proofs.Common.{◌≡◌, ℕ, zero, suc, ◌+◌, ◌<◌, ◌�
 use Rattle.std.proofs.Common.{◌∷◌, ◌++◌, All, map, filter, length, drop, take, refl, sym, ap, ◌∙◌}
 use Rattle.std.proofs.Common.{arith}
 use Rattle.std.specs.Prelude.{ℤ}
+use Rattle.std.proofs.lemmas.List.{length-map}
 use Rattle.firings.specs.declared.firing.Firing.{Firing}
 use Rattle.firings.specs.Firings.{thread_of}
 use Rattle.shard_queue.specs.Groupings.{indices_from}
@@ -37,11 +38,7 @@ below test n i (t ∷ ts) le = here (test t) (below test n (suc i) ts (omega ari
     here false more k d lt = more k d lt
 
 pub all_below : (test : ℤ → Bool) (fs : List Firing) → All (λ p. p < length fs) (indices_from test 0 (map thread_of fs))
-all_below test fs = below test (length fs) 0 (map thread_of fs) (let same = length_map fs in omega arith)
-  where
-    length_map : (gs : List Firing) → length (map thread_of gs) ≡ length gs
-    length_map [] = refl
-    length_map (g ∷ gs) = ap suc (length_map gs)
+all_below test fs = below test (length fs) 0 (map thread_of fs) (let same = length-map fs thread_of in omega arith)
 
 pub few_indices : (test : ℤ → Bool) (i : ℕ) (fs : List Firing) → length (indices_from test i (map thread_of fs)) ≤ length fs
 few_indices test i [] = omega arith

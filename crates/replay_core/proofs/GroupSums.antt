@@ -1,8 +1,8 @@
 -- Lists and sums over groups.
 use Rattle.std.proofs.Common.{◌≡◌, ◌≢◌, ℕ, zero, suc, ◌+◌, ◌<◌, ◌≤◌, Bool, true, false, cond, List}
 use Rattle.std.proofs.Common.{[], ◌∷◌, ◌++◌, Option, None, Some, All, filter, sum_by, refl, sym, ap}
-use Rattle.std.proofs.Common.{◌∙◌, subst, ⊎_elim, inl, inr, arith, append-nil, eq-eqb, ne_eqb}
-use Rattle.std.specs.Prelude.{IsSomeAnd, ◌⊎◌}
+use Rattle.std.proofs.Common.{◌∙◌, subst, ⊎_elim, arith, append-nil, eq-eqb, ne_eqb}
+use Rattle.std.specs.Prelude.{IsSomeAnd}
 use Rattle.std.specs.List.{flat_map, range_with_len}
 use Rattle.std.proofs.lemmas.Bool.{cases_eq}
 use Rattle.std.proofs.lemmas.List.Elements.{filter-append}

@@ -1,7 +1,7 @@
 -- What workers gave back, one worker after the other.
 use Rattle.std.proofs.Common.{All, IfOk, List, None, Ok, Option, Result, Some, Vec, [], ap}
-use Rattle.std.proofs.Common.{append-nil, append_assoc, ap₂, arith, get_or, if◌then◌else◌, length, map, min, refl, subst, suc}
-use Rattle.std.proofs.Common.{sym, zero, ℕ, ◌++◌, ◌+◌, ◌<◌, ◌∙◌, ◌∷◌, ◌≡◌, ◌≤◌}
+use Rattle.std.proofs.Common.{append-nil, append_assoc, ap₂, arith, if◌then◌else◌, length, map, min, refl, subst, suc}
+use Rattle.std.proofs.Common.{sym, ℕ, ◌++◌, ◌+◌, ◌<◌, ◌∙◌, ◌∷◌, ◌≡◌, ◌≤◌}
 use Rattle.std.specs.List.{flat_map}
 use Rattle.std.specs.declared.alloc.Global.{Global}
 use Rattle.std.proofs.lemmas.List.{map-append}

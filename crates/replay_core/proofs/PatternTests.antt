@@ -1,5 +1,5 @@
 -- The tests of patterns decide what they are to say.
-use Rattle.std.proofs.Common.{◌≡◌, ◌≢◌, ℕ, suc, ◌==◌, ◌⊎◌, inl, inr, ⊎_elim, ◌↔◌, Bool, true, false}
+use Rattle.std.proofs.Common.{◌≡◌, ◌≢◌, ℕ, suc, ◌==◌, inl, inr, ⊎_elim, ◌↔◌, Bool, true, false}
 use Rattle.std.proofs.Common.{cond, ◌&&◌, List, [], ◌∷◌, ◌++◌, length, All, refl, sym, ap}
 use Rattle.std.proofs.Common.{◌∙◌, subst, arith}
 use Rattle.std.specs.Prelude.{not, IsTrue, take, ◌≤◌}
@@ -161,20 +161,31 @@ pub field_answer : (pattern text : List ℕ) (r : Bool) → pattern ≢ [] → (
 field_answer [] text r some is = absurd (some refl)
 field_answer (p ∷ pattern) text r some is = same_test r (matches (p ∷ pattern) text) is (matches_is (p ∷ pattern) text)
 
+pub record All4 (a b c d : Bool) : Type 0 where
+  pub first : a ≡ true
+  pub second : b ≡ true
+  pub third : c ≡ true
+  pub fourth : d ≡ true
+
+pub all4 : (a b c d : Bool) → (a && b && c && d) ≡ true → All4 a b c d
+all4 a b c d e =
+    let three = and_parts (a && b && c) d e in
+    let two = and_parts (a && b) c three.0 in
+    let one = and_parts a b two.0 in
+    record { first = one.0; second = one.1; third = two.1; fourth = three.1 }
+
 -- the test of a description decides whether it matches
 pub selected : (d : Description) (p : Probe) → IsTrue (selects d p) ↔ Selects d p
 selected d p = (there, back)
   where
     there : IsTrue (selects d p) → Selects d p
     there e =
-        let three = and_parts (field_matches d.provider p.provider && field_matches d.«module» p.probemod && field_matches d.function p.probefunc) (field_matches d.name p.name) e in
-        let two = and_parts (field_matches d.provider p.provider && field_matches d.«module» p.probemod) (field_matches d.function p.probefunc) three.0 in
-        let one = and_parts (field_matches d.provider p.provider) (field_matches d.«module» p.probemod) two.0 in
+        let all = all4 (field_matches d.provider p.provider) (field_matches d.«module» p.probemod) (field_matches d.function p.probefunc) (field_matches d.name p.name) e in
         record {
-          provider = (field_is d.provider p.provider).0 one.0;
-          probemod = (field_is d.«module» p.probemod).0 one.1;
-          probefunc = (field_is d.function p.probefunc).0 two.1;
-          name = (field_is d.name p.name).0 three.1;
+          provider = (field_is d.provider p.provider).0 all.first;
+          probemod = (field_is d.«module» p.probemod).0 all.second;
+          probefunc = (field_is d.function p.probefunc).0 all.third;
+          name = (field_is d.name p.name).0 all.fourth;
         }
 
     back : Selects d p → IsTrue (selects d p)

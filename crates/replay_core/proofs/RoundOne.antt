@@ -24,7 +24,7 @@ use Rattle.replay_core.specs.Running.{threads_over}
 use Rattle.replay_core.specs.Seen.{piece_seen}
 use Rattle.replay_core.specs.Working.{IsOfGroup}
 use Rattle.replay_core.proofs.BeginLemmas.{exit_parts}
-use Rattle.replay_core.proofs.ExitLemmas.{Rises, late, some_is}
+use Rattle.replay_core.proofs.ExitLemmas.{late, some_is}
 use Rattle.replay_core.proofs.GroupSums.{AllIn, own_group, part, passed, taken}
 use Rattle.replay_core.proofs.GroupTexts.{Climbs, Over, group_in, grouped_history, over_climbs, over_history}
 use Rattle.replay_core.proofs.Restricting.{group_restricts}

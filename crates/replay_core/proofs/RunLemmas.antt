@@ -24,7 +24,7 @@ threads_append : (m : ScriptMeant) (fs gs : List Firing) (threads : Threads) →
 threads_append m [] gs threads = refl
 threads_append m (f ∷ fs) gs threads = threads_append m fs gs (threads_after m f threads)
 
-exit_first : {A : Type 0} (a b c : Option A) → option_or a (option_or b c) ≡ option_or (option_or a b) c
+pub exit_first : {A : Type 0} (a b c : Option A) → option_or a (option_or b c) ≡ option_or (option_or a b) c
 exit_first None b c = refl
 exit_first (Some x) b c = refl
 

@@ -4,7 +4,7 @@ use Rattle.std.specs.Prelude.{map, length, slice_get}
 use Rattle.std.specs.Borrow.{Bor}
 use Rattle.std.specs.Prelude.{IfSome, None, Option, Some}
 use Rattle.std.specs.List.{AllZip}
-use Rattle.std.proofs.Common.{refl, ap, ◌∙◌, subst, sym, arith, get_or, ⊎_elim}
+use Rattle.std.proofs.Common.{refl, ap, ◌∙◌, subst, sym, get_or, ⊎_elim}
 use Rattle.std.proofs.Common.{take}
 use Rattle.std.proofs.lemmas.List.{get_or-map, length-map, map-append, take_more}
 use Rattle.std.proofs.lemmas.List.Elements.{All-map}

@@ -1,5 +1,5 @@
 -- The variables of threads, before and after a firing.
-use Rattle.std.specs.Prelude.{◌≡◌, ℕ, zero, suc, ℤ, List, [], ◌∷◌, All, filter, map, true}
+use Rattle.std.specs.Prelude.{◌≡◌, ℕ, suc, ℤ, List, [], ◌∷◌, All, filter, map, true}
 use Rattle.std.specs.Prelude.{false, ◌==◌, if◌then◌else◌, length}
 use Rattle.std.specs.Ordering.{int_eq}
 use Rattle.std.proofs.Common.{refl, arith, sym, ap, ◌∙◌, subst}

@@ -4,6 +4,7 @@ use Rattle.std.specs.Prelude.{false, ◌+◌, ◌||◌, Option, None, Some, is_s
 use Rattle.std.specs.Option.{option_or}
 use Rattle.std.specs.List.{AllZip}
 use Rattle.std.proofs.Common.{refl, sym, ap, ◌∙◌, subst, arith, get_or}
+use Rattle.std.proofs.lemmas.Option.{get_or_from_slice_get, slice_get_within}
 use Rattle.d_types.specs.Clauses.{Made}
 use Rattle.d_types.specs.Clauses.{and_then, run_of}
 use Rattle.d_types.specs.Held.{AreTyped, HasTypedBuiltIns, Slots}
@@ -34,10 +35,9 @@ zip_at R (x ∷ xs) (y ∷ ys) (suc i) d zip lt = zip_at R xs ys i d zip.1 (omeg
 -- and what is true of all that stands there
 pub zip_with_at : {A B : Type 0} (R : A → B → Type 0) (P : B → Type 0) (xs : List A) (ys : List B) (i : ℕ) (d : A) → AllZip R xs ys → All P ys
     → i < length xs → (y : B) × (slice_get ys i ≡ Some y) × R (get_or xs i d) y × P y
-zip_with_at R P [] ys i d zip all lt = absurd (omega arith)
-zip_with_at R P (x ∷ xs) [] i d zip all lt = absurd zip
-zip_with_at R P (x ∷ xs) (y ∷ ys) zero d zip all lt = (y, refl, zip.0, all zero y (omega arith))
-zip_with_at R P (x ∷ xs) (y ∷ ys) (suc i) d zip all lt = zip_with_at R P xs ys i d zip.1 (λ k e less. all (suc k) e (omega (arith, less))) (omega arith)
+zip_with_at R P xs ys i d zip all lt =
+    let (y, at, related) = zip_at R xs ys i d zip lt in
+    (y, at, related, subst P (get_or_from_slice_get ys i y y at) (all i y (slice_get_within ys i y at)))
 
 module _ (f : Firing) (cs : List ClauseMeant) where
   pub continues_start : (all : List ℕ) (vars : Variables) (p : PieceSeen) → Continues f cs all all vars vars p p false

@@ -3,6 +3,7 @@ use Rattle.std.proofs.Common.{◌≡◌, ℕ, suc, ◌+◌, List, [], ◌∷◌,
 use Rattle.std.proofs.Common.{sym, ap, ap₂, ◌∙◌, subst, arith, append-nil}
 use Rattle.std.specs.List.{flat_map, range_with_len}
 use Rattle.std.specs.List.Sorted.{IsStrictlyIncreasing}
+use Rattle.std.proofs.lemmas.List.Concat.{flat_map_single}
 use Rattle.std.proofs.lemmas.List.Sorted.{All-permutation}
 use Rattle.aggregations.specs.Table.{StandsFor}
 use Rattle.aggregations.proofs.OrderLemmas.{stands_same}
@@ -80,9 +81,9 @@ module _ (m : ScriptMeant) (grouping : Grouping) (fs : List Firing) where
   each_once w grouped whole = λ h.
       ap (λ l. sum_by h (flat_map (λ (group : List ℕ). group) l)) whole.ran
       ∙ ap (sum_by h) (joined (λ g. map number_of (of_group grouping g fs)) (range_with_len 0 grouping.count)
-      ∙ flat_same (λ g. map number_of (of_group grouping g fs)) (λ g. flat_map own_number (of_group grouping g fs)) (range_with_len 0 grouping.count) (λ g. one_each (of_group grouping g fs)))
+      ∙ flat_same (λ g. map number_of (of_group grouping g fs)) (λ g. flat_map own_number (of_group grouping g fs)) (range_with_len 0 grouping.count) (λ g. sym (flat_map_single number_of (of_group grouping g fs))))
       ∙ parts_read (λ (f : Firing). grouping.group f.thread) own_number grouping.count h fs grouped
-      ∙ ap (sum_by h) (sym (one_each fs))
+      ∙ ap (sum_by h) (flat_map_single number_of fs)
     where
       own_number : Firing → List ℕ
       own_number f = f.number ∷ []
@@ -90,7 +91,3 @@ module _ (m : ScriptMeant) (grouping : Grouping) (fs : List Firing) where
       joined : (f : ℕ → List ℕ) (gs : List ℕ) → flat_map (λ (group : List ℕ). group) (map f gs) ≡ flat_map f gs
       joined f [] = refl
       joined f (g ∷ gs) = ap (λ l. f g ++ l) (joined f gs)
-
-      one_each : (xs : List Firing) → map number_of xs ≡ flat_map own_number xs
-      one_each [] = refl
-      one_each (x ∷ xs) = ap (λ l. x.number ∷ l) (one_each xs)

@@ -2,7 +2,7 @@
 use Rattle.std.proofs.Common.{◌≡◌, ℕ, zero, suc, ◌+◌, ◌<◌, ◌≤◌, true, false, cond, List, []}
 use Rattle.std.proofs.Common.{◌∷◌, ◌++◌, Some, map, filter, length, take, drop, get_or}
 use Rattle.std.proofs.Common.{slice_get, sym, ap, ◌∙◌, subst, arith, append-nil}
-use Rattle.std.proofs.lemmas.List.{map-append}
+use Rattle.std.proofs.lemmas.List.{length-take, map-append}
 use Rattle.std.proofs.lemmas.List.Concat.{flat_map-append}
 use Rattle.std.proofs.lemmas.List.Elements.{filter-append}
 use Rattle.d_types.specs.Typed.{ScriptMeant}
@@ -37,14 +37,16 @@ kept_more span fs indices i index f lt item is =
     ap (filter (is_in span)) (at_more fs indices i index f lt item is)
     ∙ filter-append (is_in span) (firings_at fs (take i indices)) (f ∷ [])
 
-pub few_at : (fs : List Firing) (i : ℕ) (indices : List ℕ) → length (firings_at fs (take i indices)) ≤ i
-few_at fs zero indices = omega arith
-few_at fs (suc i) [] = omega arith
-few_at fs (suc i) (p ∷ indices) = first (drop p fs) (few_at fs i indices)
+pub few_firings : (fs : List Firing) (indices : List ℕ) → length (firings_at fs indices) ≤ length indices
+few_firings fs [] = omega arith
+few_firings fs (p ∷ indices) = first (drop p fs) (few_firings fs indices)
   where
-    first : (l : List Firing) → length (firings_at fs (take i indices)) ≤ i → length (take 1 l ++ firings_at fs (take i indices)) ≤ suc i
+    first : (l : List Firing) → length (firings_at fs indices) ≤ length indices → length (take 1 l ++ firings_at fs indices) ≤ suc (length indices)
     first [] le = omega arith
     first (x ∷ l) le = omega arith
+
+pub few_at : (fs : List Firing) (i : ℕ) (indices : List ℕ) → length (firings_at fs (take i indices)) ≤ i
+few_at fs i indices = let few = few_firings fs (take i indices) in let most = length-take i indices in omega arith
 
 -- ---- a firing that counts, and one that doesn't
 

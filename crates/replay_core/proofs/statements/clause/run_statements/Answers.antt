@@ -1,9 +1,9 @@
 use Rattle.std.specs.Prelude.{◌≡◌, ◌+◌, ◌<◌, ◌∷◌, ◌++◌, [], ◌||◌, length, map, take, Ok, Err}
-use Rattle.std.proofs.Common.{refl, rules, arith, add-one, drop, subst, sym, ap, ◌∙◌}
-use Rattle.std.proofs.Math.Seq.{drop-cons}
+use Rattle.std.proofs.Common.{refl, rules, arith, drop, subst, sym, ap, ◌∙◌}
 use Rattle.std.proofs.lemmas.List.{drop_all}
 use Rattle.aggregations.specs.Table.{functions_of}
 use Rattle.d_types.specs.Clauses.{effect_by, fault_line}
+use Rattle.shard_queue.proofs.Lists.{drop_next}
 use Rattle.replay_core.specs.Bounds.{index_in}
 use Rattle.replay_core.specs.Steps.EffectRuns.{effect_then, statements_by}
 use Rattle.replay_core.specs.Steps.Effects.{Performs}
@@ -56,8 +56,7 @@ loop-statement-preserved g c =
     let left = statements_by by (map form (drop i all)) now in
     let o = effect_by by (form item) now in
     let go = statements_by by (map form (drop (i + 1) all)) in
-    let cut : drop i all ≡ item ∷ drop (i + 1) all =
-    subst (λ s. drop i all ≡ s ∷ drop (i + 1) all) (sym c.statement-item.is) (rw add-one (drop-cons all i item (search rules))) in
+    let cut = drop_next all i item (search rules) (sym c.statement-item.is) in
     let is : left ≡ effect_then o go = ap (λ l. statements_by by (map form l) now) cut in
     let stays = c.loop-statement.invariant.stays in
     let performs = subst (λ s. Performs s.now.number (effect_by (g.X.Expression.by s.now) (form item) now) (piece_seen c.loop-statement.piece) (Ok c.in-Ok.exited) (piece_seen c.perform.new.piece) (variables_in g.X.Store.Store.seen c.perform.new.state))
@@ -82,8 +81,7 @@ returns-in-Err-DivideByZero-clause-run g c =
     let left = statements_by by (map form (drop i all)) now in
     let o = effect_by by (form item) now in
     let go = statements_by by (map form (drop (i + 1) all)) in
-    let cut : drop i all ≡ item ∷ drop (i + 1) all =
-    subst (λ s. drop i all ≡ s ∷ drop (i + 1) all) (sym c.statement-item.is) (rw add-one (drop-cons all i item (search rules))) in
+    let cut = drop_next all i item (search rules) (sym c.statement-item.is) in
     let is : left ≡ effect_then o go = ap (λ l. statements_by by (map form l) now) cut in
     let line = fault_line f.number c.args.index in
     let noted = c.in_ok-note_fault-in-Err-DivideByZero.ensures in

@@ -1,12 +1,12 @@
-use Rattle.std.specs.Prelude.{◌≡◌, ◌+◌, ◌++◌, ◌∷◌, [], Err}
+use Rattle.std.specs.Prelude.{◌≡◌, ◌+◌, ◌++◌, [], Err}
 use Rattle.std.specs.List.{All}
-use Rattle.std.proofs.Common.{refl, rules, arith, add-one, drop, subst, sym, ap, ◌∙◌}
-use Rattle.std.proofs.Math.Seq.{drop-cons}
+use Rattle.std.proofs.Common.{refl, rules, arith, drop, subst, sym, ap, ◌∙◌}
 use Rattle.std.proofs.lemmas.List.{append-nil, drop_all}
 use Rattle.numbered.specs.Words.{key_in}
 use Rattle.d_types.specs.Expressions.{Has, with}
 use Rattle.dif_machine.specs.Machine.{IsWithin}
 use Rattle.dif_codegen.specs.Meaning.{key_of_objects}
+use Rattle.shard_queue.proofs.Lists.{drop_next}
 use Rattle.replay_core.specs.Steps.Evaluation.{IsMadeKey}
 use Rattle.replay_core.specs.WordStore.{words_seen}
 use Rattle.replay_core.proofs.KeyLemmas.{part_faults, part_further, within_more}
@@ -24,8 +24,7 @@ loop-object-preserved c =
     let new = c.run.new.self in
     let words = c.loop-object.key.items in
     let pushed = c.in_ok-push.ensures.items in
-    let cut : drop i all ≡ item ∷ drop (i + 1) all =
-    subst (λ s. drop i all ≡ s ∷ drop (i + 1) all) (sym c.object-item.is) (rw add-one (drop-cons all i item (search rules))) in
+    let cut = drop_next all i item (search rules) (sym c.object-item.is) in
     record {
       stays = stays_then words_seen c.args.state.now c.loop-object.state _ so_far.stays
           (record { firing = refl; store = refl; at = c.in_ok-word.ensures.at; others = c.in_ok-word.ensures.others });
@@ -61,8 +60,7 @@ returns-in_err-word-clause-meets c =
     let old = c.loop-object.state.store.now in
     let new = c.run.new.self in
     let words = c.loop-object.key.items in
-    let cut : drop i all ≡ item ∷ drop (i + 1) all =
-    subst (λ s. drop i all ≡ s ∷ drop (i + 1) all) (sym c.object-item.is) (rw add-one (drop-cons all i item (search rules))) in
+    let cut = drop_next all i item (search rules) (sym c.object-item.is) in
     let whole = key_of_objects c.args.state.now.firing.now all (words_seen c.args.state.now.store.now).present in
     let refused : c.from_residual.result ≡ Err c.in_err-word.field-0.0 = search rules in
     record {
