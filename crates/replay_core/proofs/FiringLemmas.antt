@@ -1,13 +1,13 @@
 -- What all_made make is what a firing means.
-use Rattle.std.specs.Prelude.{◌≡◌, ℕ, zero, suc, ◌+◌, ◌<◌, ◌≤◌, List, [], ◌∷◌, ◌++◌, All, filter}
+use Rattle.std.specs.Prelude.{◌≡◌, ℕ, suc, ◌+◌, ◌<◌, ◌≤◌, List, [], ◌∷◌, ◌++◌, All, filter}
 use Rattle.std.specs.Prelude.{map, length, slice_get, sum_by, Option, None, Some, option_map}
-use Rattle.std.specs.Prelude.{is_some, Bool, true, false, if◌then◌else◌}
+use Rattle.std.specs.Prelude.{is_some}
 use Rattle.std.specs.Option.{option_or}
 use Rattle.std.proofs.Common.{refl, sym, ap, ◌∙◌, subst, arith, add-one, add-zero}
 use Rattle.std.proofs.Common.{length-append}
 use Rattle.std.proofs.lemmas.List.{length-map}
 use Rattle.std.proofs.lemmas.List.Sums.{sum_by-cons}
-use Rattle.std.proofs.lemmas.List.Elements.{All-append}
+use Rattle.std.proofs.lemmas.List.Elements.{All-append, All-map}
 use Rattle.aggregations.specs.Table.{StandsFor, functions_of}
 use Rattle.d_parser.specs.declared.tree.Description.{Description}
 use Rattle.d_types.specs.Clauses.{Made, run_of}
@@ -24,6 +24,7 @@ use Rattle.replay_core.specs.Pieces.{PieceSeen}
 use Rattle.replay_core.specs.Indices.{indices_for}
 use Rattle.replay_core.specs.Steps.AllMade.{run_at, all_made}
 use Rattle.replay_core.proofs.Noting.{append_nil, or_none}
+use Rattle.replay_core.proofs.TraceRuns.{few_kept}
 
 -- ---- all_made
 
@@ -54,17 +55,10 @@ all_made_are m f vars = all_made_from f m.clauses 0 m.clauses (λ i. ap (slice_g
 
 -- ---- how many, and where
 
-length_filter : {A : Type 0} (p : A → Bool) (xs : List A) → length (filter p xs) ≤ length xs
-length_filter p [] = omega arith
-length_filter p (x ∷ xs) = elim (p x) as (λ b. length (if b then x ∷ filter p xs else filter p xs) ≤ length (x ∷ xs)) [
-  | true ↦ let less = length_filter p xs in omega arith
-  | false ↦ let less = length_filter p xs in omega arith
-]
-
 pub indices_few : (p : Probe) (n : ℕ) (ds : List (List Description)) → length (indices_for p n ds) ≤ sum_by length ds
 indices_few p n [] = omega arith
 indices_few p n (d ∷ ds) =
-    let own = length_filter (λ d. selects d p) d in
+    let own = few_kept (λ d. selects d p) d in
     let rest = indices_few p (n + 1) ds in
     rw (sum_by-cons, length-append, length-map) (omega (arith, own, rest))
 
@@ -72,13 +66,8 @@ pub indices_within : (p : Probe) (n : ℕ) (ds : List (List Description)) → Al
 indices_within p n [] = λ k d lt. absurd (omega arith)
 indices_within p n (d ∷ ds) =
     All-append (λ i. i < n + suc (length ds)) (map (λ d. n) (filter (λ d. selects d p) d)) (indices_for p (n + 1) ds)
-    (same (filter (λ d. selects d p) d))
+    (All-map (λ i. i < n + suc (length ds)) (λ (d : Description). n) (filter (λ d. selects d p) d) (λ k x lt. omega arith))
     (λ k x lt. let rest = indices_within p (n + 1) ds k x lt in omega (arith, rest))
-  where
-    same : (xs : List Description) → All (λ i. i < n + suc (length ds)) (map (λ d. n) xs)
-    same [] k y lt = absurd (omega arith)
-    same (x ∷ xs) zero y lt = omega arith
-    same (x ∷ xs) (suc k) y lt = same xs k y (omega arith)
 
 -- ---- a firing
 

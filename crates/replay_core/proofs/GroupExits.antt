@@ -55,8 +55,7 @@ first_none a zero = refl
 first_none a (suc n) = first_none (a + 1) n
 
 pub map_same : {A B : Type 0} (f g : A → B) (xs : List A) → ((x : A) → f x ≡ g x) → map f xs ≡ map g xs
-map_same f g [] same = refl
-map_same f g (x ∷ xs) same = ap (λ y. y ∷ map f xs) (same x) ∙ ap (λ l. g x ∷ l) (map_same f g xs same)
+map_same {A} {B} f g xs same = ap (λ (h : A → B). map h xs) (λ i x. same x i)
 
 exit_later : (n : ℕ) (r : List (Firing × Made)) → Over n r → Later n (exit_of r)
 exit_later n [] over = tt

@@ -50,8 +50,7 @@ sum_none a zero = refl
 sum_none a (suc n) = sum_by-cons (λ k. 0) a (range_with_len (a + 1) n) ∙ ap (λ s. 0 + s) (sum_none (a + 1) n)
 
 pub flat_same : {A B : Type 0} (f g : A → List B) (xs : List A) → ((x : A) → f x ≡ g x) → flat_map f xs ≡ flat_map g xs
-flat_same f g [] same = refl
-flat_same f g (x ∷ xs) same = ap (λ l. l ++ flat_map f xs) (same x) ∙ ap (λ l. g x ++ l) (flat_same f g xs same)
+flat_same {A} {B} f g xs same = ap (λ (h : A → List B). flat_map h xs) (λ i x. same x i)
 
 pub flat_none : {A B : Type 0} (xs : List A) → flat_map {X = A} {A = B} (λ x. []) xs ≡ []
 flat_none [] = refl
@@ -105,14 +104,6 @@ module _ {A : Type 0} (group : A → Option ℕ) where
       → sum_by h (flat_map (λ g. flat_map read (part g xs)) (range_with_len 0 n)) ≡ sum_by h (flat_map read xs)
   parts_read read n h xs each =
       sum_by-flat h (λ g. flat_map read (part g xs)) (range_with_len 0 n)
-      ∙ sums_same (range_with_len 0 n)
+      ∙ ap (λ (f : ℕ → ℕ). sum_by f (range_with_len 0 n)) (λ i g. sum_by-flat h read (part g xs) i)
       ∙ parts_sum n (λ x. sum_by h (read x)) xs each
       ∙ sym (sum_by-flat h read xs)
-    where
-      sums_same : (gs : List ℕ) → sum_by (λ g. sum_by h (flat_map read (part g xs))) gs ≡ sum_by (λ g. sum_by (λ x. sum_by h (read x)) (part g xs)) gs
-      sums_same [] = refl
-      sums_same (g ∷ gs) =
-          sum_by-cons (λ g. sum_by h (flat_map read (part g xs))) g gs
-          ∙ ap (λ s. s + sum_by (λ g. sum_by h (flat_map read (part g xs))) gs) (sum_by-flat h read (part g xs))
-          ∙ ap (λ s. sum_by (λ x. sum_by h (read x)) (part g xs) + s) (sums_same gs)
-          ∙ sym (sum_by-cons (λ g. sum_by (λ x. sum_by h (read x)) (part g xs)) g gs)

@@ -1,7 +1,7 @@
 -- Steps of placing pieces.
 use Rattle.std.proofs.Common.{◌≡◌, ℕ, zero, suc, ◌<◌, ◌≤◌, ◌==◌, Bool, true, false, cond, List, []}
 use Rattle.std.proofs.Common.{◌∷◌, length, get_or, ◌++◌, set, Option, None, Some, is_some, refl}
-use Rattle.std.proofs.Common.{sym, ap, ◌∙◌, ⊎_elim, ltb, eq-eqb, ne_eqb}
+use Rattle.std.proofs.Common.{sym, ap, ◌∙◌, ⊎_elim, eq-eqb, ne_eqb}
 use Rattle.std.proofs.lemmas.Bool.{cases_eq, lt-ltb, le-ltb}
 use Rattle.std.proofs.lemmas.Grind.{get_or-set_at}
 use Rattle.std.proofs.lemmas.List.{get_or-set_other}
@@ -13,10 +13,7 @@ use Rattle.replay_core.specs.Steps.PiecePlaces.{IsFault, is_filled}
 use Rattle.replay_core.specs.Collecting.{first_bad, first_bad_after}
 
 bad_congr : (n : ℕ) (had other : ℕ → Bool) → ((g : ℕ) → had g ≡ other g) → (ps : List (ℕ × Piece)) → first_bad_after had n ps ≡ first_bad_after other n ps
-bad_congr n had other same [] = refl
-bad_congr n had other same (p ∷ ps) =
-    ap (λ b. cond (ltb p.0 n) (cond b (Some (Twice p.0)) (first_bad_after (λ g. cond (g == p.0) true (had g)) n ps)) (Some (Stranger p.0))) (same p.0)
-    ∙ ap (λ r. cond (ltb p.0 n) (cond (other p.0) (Some (Twice p.0)) r) (Some (Stranger p.0))) (bad_congr n (λ g. cond (g == p.0) true (had g)) (λ g. cond (g == p.0) true (other g)) (λ g. ap (λ b. cond (g == p.0) true b) (same g)) ps)
+bad_congr n had other same ps = ap (λ (h : ℕ → Bool). first_bad_after h n ps) (λ i g. same g i)
 
 filled_set : (places : List (Option Piece)) (g : ℕ) (p : Piece) → g < length places → (u : ℕ) → cond (u == g) true (is_filled places u) ≡ is_filled (set places g (Some p)) u
 filled_set places g p lt u = ⊎_elim

@@ -1,7 +1,8 @@
 -- The groups of a run unite to it.
-use Rattle.std.proofs.Common.{◌≡◌, ℕ, List, [], ◌∷◌, map, refl, sym, ap, ◌∙◌, sum_by}
+use Rattle.std.proofs.Common.{◌≡◌, ℕ, List, [], ◌∷◌, map, sym, ap, ◌∙◌, sum_by}
 use Rattle.std.specs.List.{flat_map, range_with_len}
 use Rattle.std.specs.List.Sorted.{IsStrictlyIncreasing}
+use Rattle.std.proofs.lemmas.List.Concat.{flat_map_single}
 use Rattle.d_types.specs.Typed.{ScriptMeant}
 use Rattle.d_types.specs.Clauses.{Made}
 use Rattle.firings.specs.declared.firing.Firing.{Firing}
@@ -29,8 +30,8 @@ groups_unite m grouping fs grouped rises =
         each = λ k. texts_unite k group n r up each ∙ ap (with_number k) (sym (joined texts_of));
       };
       contributions = λ h. ap (sum_by h) (joined contributions_of) ∙ parts_read group (λ x. x.1.contributions) n h r each;
-      numbers = λ h. ap (sum_by h) (joined numbers_of ∙ flat_same (λ g. numbers_of (part group g r)) (λ g. flat_map number_in (part group g r)) (range_with_len 0 n) (λ g. one_each (part group g r)))
-          ∙ parts_read group number_in n h r each ∙ ap (sum_by h) (sym (one_each r));
+      numbers = λ h. ap (sum_by h) (joined numbers_of ∙ flat_same (λ g. numbers_of (part group g r)) (λ g. flat_map number_in (part group g r)) (range_with_len 0 n) (λ g. sym (flat_map_single (λ (x : Firing × Made). x.0.number) (part group g r))))
+          ∙ parts_read group number_in n h r each ∙ ap (sum_by h) (flat_map_single (λ (x : Firing × Made). x.0.number) r);
       exit = ap first_exit (map_same (λ g. exit_of (group_history m grouping fs g)) (λ g. exit_of (part group g r)) (range_with_len 0 n) (λ g. ap exit_of (group_restricts m grouping fs g)))
           ∙ exits_unite group n r up each;
     }
@@ -41,7 +42,3 @@ groups_unite m grouping fs grouped rises =
 
     number_in : Firing × Made → List ℕ
     number_in x = x.0.number ∷ []
-
-    one_each : (s : List (Firing × Made)) → numbers_of s ≡ flat_map number_in s
-    one_each [] = refl
-    one_each (x ∷ s) = ap (λ l. x.0.number ∷ l) (one_each s)

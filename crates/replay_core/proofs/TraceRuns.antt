@@ -100,7 +100,7 @@ climbing (f ∷ fs) r = increases f.number fs r
 pub counted_rise : (s : Span) (trace : List Firing) → IsTrace trace → IsStrictlyIncreasing (map number_of (firings_in s trace))
 counted_rise s trace is = climbing (firings_in s trace) (rising_kept (is_in s) (with_ends trace trace) (trace_rises trace is))
 
-pub few_kept : (p : Firing → Bool) (fs : List Firing) → length (filter p fs) ≤ length fs
+pub few_kept : {A : Type 0} (p : A → Bool) (fs : List A) → length (filter p fs) ≤ length fs
 few_kept p fs = rw (length-filter p fs) (count_by-le-length p fs)
 
 pub counted_few : (s : Span) (trace : List Firing) → IsTrace trace → length (firings_in s trace) ≤ 1000002

@@ -42,13 +42,7 @@ within_zero [] empty k = absurd cc
 within_zero (x ∷ texts) empty kind.Number = omega arith
 within_zero (x ∷ texts) empty kind.Text = omega arith
 
--- nothing is set at first
-pub over_nothing : (texts : List (List ℕ)) → texts ≡ [] ∷ [] → IsTableOver texts [] × AreLocalsOver texts []
-over_nothing texts is =
-    let empty : slice_get texts 0 ≡ Some [] = ap (λ t. slice_get t 0) is in
-    (record { empty = empty; keys = λ thread x words no. refl; values = λ thread x words. within_zero texts empty x.kind }, λ x. within_zero texts empty x.kind)
-
-pub locals_over_none : (texts : List (List ℕ)) → slice_get texts 0 ≡ Some [] → AreLocalsOver texts []
+locals_over_none : (texts : List (List ℕ)) → slice_get texts 0 ≡ Some [] → AreLocalsOver texts []
 locals_over_none texts empty x = within_zero texts empty x.kind
 
 module _ (texts : List (List ℕ)) (table : Entries) where
@@ -89,10 +83,12 @@ blank_at_first texts is = λ i t x key. one t x key i
       | false ↦ refl
     ]
 
+-- nothing is set at first
 pub at_first : (texts : List (List ℕ)) (table : Entries) (locals : List ℕ) → texts ≡ [] ∷ [] → table ≡ [] → locals ≡ [] → IsTableOver texts table × AreLocalsOver texts locals
 at_first texts table locals is none unset =
-    let over = over_nothing texts is in
-    (subst (IsTableOver texts) (sym none) over.0, subst (AreLocalsOver texts) (sym unset) over.1)
+    let empty : slice_get texts 0 ≡ Some [] = ap (λ t. slice_get t 0) is in
+    let over : IsTableOver texts [] = record { empty = empty; keys = λ thread x words no. refl; values = λ thread x words. within_zero texts empty x.kind } in
+    (subst (IsTableOver texts) (sym none) over, subst (AreLocalsOver texts) (sym unset) (locals_over_none texts empty))
 
 pub blank_first : (texts : List (List ℕ)) (table : Entries) → texts ≡ [] ∷ [] → table ≡ [] → own_at texts table ≡ blank_threads
 blank_first texts table is none = ap (own_at texts) none ∙ blank_at_first texts is
