@@ -1,8 +1,9 @@
 -- What comparisons of keys return, by the laws of the tests and orders.
-use Rattle.std.specs.Prelude.{◌≡◌, ◌≢◌, ◌↔◌, Bool, true, false, IsTrue, List, [], ◌∷◌, ◌++◌}
+use Rattle.std.specs.Prelude.{◌≡◌, ◌≢◌, ◌↔◌, Bool, false, IsTrue, List, [], ◌∷◌, ◌++◌}
 use Rattle.std.specs.Cmp.{tied_itself}
 use Rattle.std.specs.Ordering.{ordering_then, is_eq}
 use Rattle.std.proofs.Common.{refl, sym, ap, ◌∙◌, append-nil}
+use Rattle.std.proofs.lemmas.Bool.{false_from_ne_true}
 use Rattle.d_values.specs.Vocabulary.{Ordering, Less, Equal, Greater, KeyPart}
 use Rattle.d_values.specs.Keys.{part_cmp, key_cmp, same_key, DecidesByFirstDifference}
 use Rattle.d_values.specs.KeyLaws.{same_part_decides, same_key_decides, part_cmp_total}
@@ -13,11 +14,7 @@ same_key_true x y same is =
     (λ e. (same_key_decides x y).0 (sym is ∙ e), λ e. is ∙ (same_key_decides x y).1 e)
 
 pub not_same : (x y : List KeyPart) → x ≢ y → false ≡ same_key x y
-not_same x y differ =
-    elim (same_key x y) as (λ same. same_key x y ≡ same → false ≡ same) [
-      | true ↦ λ e. absurd (differ ((same_key_decides x y).0 e))
-      | false ↦ λ e. refl
-    ] refl
+not_same x y differ = sym (false_from_ne_true _ (λ e. differ ((same_key_decides x y).0 e)))
 
 past_front : (front xs ys : List KeyPart) → key_cmp (front ++ xs) (front ++ ys) ≡ key_cmp xs ys
 past_front [] xs ys = refl

@@ -3,7 +3,7 @@ use Rattle.std.specs.Prelude.{◌≡◌, ◌≢◌, ℕ, suc, ◌-◌, ◌%◌, 
 use Rattle.std.specs.Prelude.{negsuc, neg_ℤ, ◌-ℤ◌, ◌≤ℤ◌, ◌<ℤ◌, true, false, ◌&&◌}
 use Rattle.std.specs.Prelude.{if◌then◌else◌, List}
 use Rattle.std.proofs.Common.{refl, sym, ap, ◌∙◌, arith, inl, inr, subst}
-use Rattle.std.proofs.lemmas.Bool.{cases_lt}
+use Rattle.std.proofs.lemmas.Bool.{and_parts, cases_lt, false_from_ne_true}
 use Rattle.std.proofs.lemmas.Bool.Decides.{nat_tests}
 use Rattle.std.proofs.lemmas.Int.{ints}
 use Rattle.std.proofs.lemmas.Nat.{pow_pos}
@@ -28,21 +28,15 @@ modulo-below_zero low size small =
     let rest : (size - suc low) % size ≡ size - suc low = mod-eq_of_lt (omega arith) in
     ap (λ z. modulo z size) negative ∙ (let e : modulo (negsuc (size - suc low)) size ≡ low = omega arith in e)
 
-least_plain : (t : IntType) → t.signed ≡ false → least_of t ≡ pos 0
-least_plain t plain = grind (arith, nat_tests)
+plain_bounds : (t : IntType) → t.signed ≡ false → (least_of t ≡ pos 0) × (bound_of t ≡ pos (2 ^ t.width))
+plain_bounds t plain = (grind (arith, nat_tests), grind (arith, nat_tests))
 
-bound_plain : (t : IntType) → t.signed ≡ false → bound_of t ≡ pos (2 ^ t.width)
-bound_plain t plain = grind (arith, nat_tests)
-
-least_signed : (t : IntType) → t.signed ≡ true → least_of t ≡ neg_ℤ (pos (2 ^ (t.width - 1)))
-least_signed t signed = grind (arith, nat_tests)
-
-bound_signed : (t : IntType) → t.signed ≡ true → bound_of t ≡ pos (2 ^ (t.width - 1))
-bound_signed t signed = grind (arith, nat_tests)
+signed_bounds : (t : IntType) → t.signed ≡ true → (least_of t ≡ neg_ℤ (pos (2 ^ (t.width - 1)))) × (bound_of t ≡ pos (2 ^ (t.width - 1)))
+signed_bounds t signed = (grind (arith, nat_tests), grind (arith, nat_tests))
 
 -- a number of the type has these bounds
-within : (t : IntType) (n lo hi : ℤ) → least_of t ≡ lo → bound_of t ≡ hi → lo ≤ℤ n → n <ℤ hi → IsNumber t n
-within t n lo hi el eh least below = record { least = subst (λ z. z ≤ℤ n) (sym el) least; below = subst (λ z. n <ℤ z) (sym eh) below }
+within : (t : IntType) (n lo hi : ℤ) → (least_of t ≡ lo) × (bound_of t ≡ hi) → lo ≤ℤ n → n <ℤ hi → IsNumber t n
+within t n lo hi are least below = record { least = subst (λ z. z ≤ℤ n) (sym are.0) least; below = subst (λ z. n <ℤ z) (sym are.1) below }
 
 module _ (t : IntType) (low : ℕ) (small : low < 2 ^ t.width) where
   -- what the lowest bits stand for: a number of the type, with these bits
@@ -54,17 +48,17 @@ module _ (t : IntType) (low : ℕ) (small : low < 2 ^ t.width) where
   fine = elim t.signed as (λ s. t.signed ≡ s → Fine (number_of_bits t low)) [
     | true ↦ λ signed. elim (cases_lt low (2 ^ (t.width - 1))) [
       | inl under ↦ subst Fine (sym (typed_low t low under)) (record {
-        number = within t (pos low) (neg_ℤ (pos (2 ^ (t.width - 1)))) (pos (2 ^ (t.width - 1))) (least_signed t signed) (bound_signed t signed) (omega (arith, ints)) (omega (arith, ints));
+        number = within t (pos low) (neg_ℤ (pos (2 ^ (t.width - 1)))) (pos (2 ^ (t.width - 1))) (signed_bounds t signed) (omega (arith, ints)) (omega (arith, ints));
         same = mod-eq_of_lt small;
       })
       | inr over ↦ subst Fine (sym (typed_high t low signed over)) (record {
-        number = within t (pos low -ℤ pos (2 ^ t.width)) (neg_ℤ (pos (2 ^ (t.width - 1)))) (pos (2 ^ (t.width - 1))) (least_signed t signed) (bound_signed t signed)
+        number = within t (pos low -ℤ pos (2 ^ t.width)) (neg_ℤ (pos (2 ^ (t.width - 1)))) (pos (2 ^ (t.width - 1))) (signed_bounds t signed)
             (omega (arith, ints, (sizes t.width t.known).double)) (omega (arith, ints));
         same = modulo-below_zero low (2 ^ t.width) small;
       })
     ]
     | false ↦ λ plain. subst Fine (sym (typed_plain t low plain)) (record {
-      number = within t (pos low) (pos 0) (pos (2 ^ t.width)) (least_plain t plain) (bound_plain t plain) (omega (arith, ints)) (omega (arith, ints));
+      number = within t (pos low) (pos 0) (pos (2 ^ t.width)) (plain_bounds t plain) (omega (arith, ints)) (omega (arith, ints));
       same = mod-eq_of_lt small;
     })
   ] refl
@@ -93,8 +87,8 @@ own_signed t (negsuc a) signed least below =
 
 own : (t : IntType) (n : ℤ) → IsNumber t n → wrap t n ≡ n
 own t n is = elim t.signed as (λ s. t.signed ≡ s → wrap t n ≡ n) [
-  | true ↦ λ e. own_signed t n e (subst (λ z. z ≤ℤ n) (least_signed t e) is.least) (subst (λ z. n <ℤ z) (bound_signed t e) is.below)
-  | false ↦ λ e. own_plain t n e (subst (λ z. z ≤ℤ n) (least_plain t e) is.least) (subst (λ z. n <ℤ z) (bound_plain t e) is.below)
+  | true ↦ λ e. own_signed t n e (subst (λ z. z ≤ℤ n) (signed_bounds t e).0 is.least) (subst (λ z. n <ℤ z) (signed_bounds t e).1 is.below)
+  | false ↦ λ e. own_plain t n e (subst (λ z. z ≤ℤ n) (plain_bounds t e).0 is.least) (subst (λ z. n <ℤ z) (plain_bounds t e).1 is.below)
 ] refl
 
 pub one_number : (t : IntType) (z n : ℤ) → IsWrapped t z n → n ≡ wrap t z
@@ -106,20 +100,13 @@ pub same_var-same : (v : Var) → same_var v v ≡ true
 same_var-same v = (same_var_decides v v).1 refl
 
 pub same_var-other : (v w : Var) → w ≢ v → same_var v w ≡ false
-same_var-other v w other = elim (same_var v w) as (λ b. same_var v w ≡ b → b ≡ false) [ true ↦ λ e. absurd (other (sym ((same_var_decides v w).0 e))) | false ↦ λ e. refl ] refl
+same_var-other v w other = false_from_ne_true _ (λ e. other (sym ((same_var_decides v w).0 e)))
 
 both-same : (v : Var) (k : List KeyPart) → same_var v v && same_key k k ≡ true
 both-same v k = ap (λ b. b && same_key k k) (same_var-same v) ∙ (same_key_decides k k).1 refl
 
 both-other : (var v : Var) (key k : List KeyPart) → ((v ≡ var) × (k ≡ key) → ⊥) → same_var var v && same_key key k ≡ false
-both-other var v key k other =
-    elim (same_var var v) as (λ b. same_var var v ≡ b → b && same_key key k ≡ false) [
-      | true ↦ λ e. elim (same_key key k) as (λ b. same_key key k ≡ b → b ≡ false) [
-        | true ↦ λ f. absurd (other (sym ((same_var_decides var v).0 e), sym ((same_key_decides key k).0 f)))
-        | false ↦ λ f. refl
-      ] refl
-      | false ↦ λ e. refl
-    ] refl
+both-other var v key k other = false_from_ne_true _ (λ e. let both = and_parts _ _ e in other (sym ((same_var_decides var v).0 both.0), sym ((same_key_decides key k).0 both.1)))
 
 pub with_local-here : {X : Type 0} (values : Var → X) (var : Var) (value : X) → with_local values var value var ≡ value
 with_local-here values var value = ap (λ b. if b then value else values var) (same_var-same var)

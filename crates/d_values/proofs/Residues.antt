@@ -8,7 +8,7 @@ use Rattle.std.proofs.lemmas.Int.{ints, to_z_pos, of_z-to_z, wrapping_add-bits, 
 use Rattle.std.proofs.lemmas.Int.{wrapping_mul-bits, int_wrap-mul_left, int_rem_euclid_is}
 use Rattle.std.proofs.lemmas.Bool.{cases_lt}
 use Rattle.std.proofs.lemmas.Nat.{and_le_l, or_lt, xor_lt}
-use Rattle.std.proofs.Math.Nat.{div-le_self, mod-le}
+use Rattle.std.proofs.Math.Nat.{div-le_self, mod-eq_of_lt, mod-le}
 use Rattle.std.proofs.Math.Facts.{to_z-neg}
 use Rattle.d_values.specs.Numbers.{bits_of, read, whole_of, whole_shift_of}
 use Rattle.d_values.specs.Words.{operate, shift_result, sum_of, difference_of}
@@ -54,7 +54,8 @@ abs_cast_signed a small = elim (cases_lt a (2 ^ 63)) [
   | inr high ↦ subst (λ z. unsigned_abs z ≤ 2 ^ 63) (sym (cast_signed-high a high small)) (omega arith)
 ]
 
-abs_neg : (n : ℕ) → unsigned_abs (neg_ℤ (pos n)) ≡ n
+-- as far from zero on the other side
+pub abs_neg : (n : ℕ) → unsigned_abs (neg_ℤ (pos n)) ≡ n
 abs_neg zero = refl
 abs_neg (suc n) = refl
 
@@ -86,12 +87,6 @@ bitwise f signed a b sa sb small =
     ∙ ap (λ y. bits_of (pos (f a y))) (bits_of-read signed b sb)
     ∙ bits_of-pos (f a b) small
 
-quotient_small : (x y : ℤ) → unsigned_abs x ≤ 2 ^ 63 → bits_of (int_div x y) ≡ cast_unsigned w64 (int_div x y)
-quotient_small x y small = bits_of-small (int_div x y) (omega (arith, abs_int_div x y))
-
-remainder_small : (x y : ℤ) → unsigned_abs x ≤ 2 ^ 63 → bits_of (int_rem x y) ≡ cast_unsigned w64 (int_rem x y)
-remainder_small x y small = bits_of-small (int_rem x y) (omega (arith, abs_int_rem x y))
-
 difference : (a b : ℕ) → a < 2 ^ 64 → b < 2 ^ 64 → bits_of (pos a -ℤ pos b) ≡ difference_of a b
 difference a b sa sb = ap unsigned_abs (int_rem_euclid_is (pos a -ℤ pos b) (pos (2 ^ 64)) (2 ^ 64) 1 (a + (2 ^ 64 - b)) (omega arith) refl (omega (arith, ints)))
 
@@ -99,9 +94,9 @@ pub operated : (op : ArithmeticOperator) (signed : Bool) (a b : ℕ) → a < 2 ^
     → bits_of (whole_of op (read signed a) (read signed b)) ≡ operate op signed a b
 operated Multiply true a b sa sb = from_wrapped (operate Multiply true a b) _ (omega arith) (wrapping_mul-bits w64 a b sa sb)
 operated Multiply false a b sa sb = refl
-operated Divide true a b sa sb = quotient_small (cast_signed w64 a) (cast_signed w64 b) (abs_cast_signed a sa)
+operated Divide true a b sa sb = bits_of-small (int_div (cast_signed w64 a) (cast_signed w64 b)) (omega (arith, abs_int_div (cast_signed w64 a) (cast_signed w64 b), abs_cast_signed a sa))
 operated Divide false a b sa sb = bits_of-pos (a / b) (omega (arith, div-le_self a b))
-operated Remainder true a b sa sb = remainder_small (cast_signed w64 a) (cast_signed w64 b) (abs_cast_signed a sa)
+operated Remainder true a b sa sb = bits_of-small (int_rem (cast_signed w64 a) (cast_signed w64 b)) (omega (arith, abs_int_rem (cast_signed w64 a) (cast_signed w64 b), abs_cast_signed a sa))
 operated Remainder false a b sa sb = bits_of-pos (a % b) (omega (arith, mod-le a b))
 operated Add true a b sa sb = from_wrapped (sum_of a b) _ (omega arith) (wrapping_add-bits w64 a b sa sb)
 operated Add false a b sa sb = refl
@@ -115,15 +110,12 @@ wrap_pos : (n : ℕ) → int_wrap w64 (pos n) ≡ cast_signed w64 (n % 2 ^ 64)
 unfolding int_wrap
 wrap_pos n = refl
 
-wrap_word : (a : ℕ) → a < 2 ^ 64 → int_wrap w64 (pos a) ≡ cast_signed w64 a
-wrap_word a small = let e : a % 2 ^ 64 ≡ a = omega arith in wrap_pos a ∙ ap (cast_signed w64) e
-
 -- a signed word moved to the left: to wrap it before changes nothing
 moved_left : (a count : ℕ) → a < 2 ^ 64 → bits_of (cast_signed w64 a *ℤ pos (2 ^ count)) ≡ (a * 2 ^ count) % 2 ^ 64
 moved_left a count small =
     from_wrapped ((a * 2 ^ count) % 2 ^ 64) (cast_signed w64 a *ℤ pos (2 ^ count)) (omega arith)
     (sym (wrap_pos (a * 2 ^ count)) ∙ sym (int_wrap-mul_left w64 (pos a) (pos (2 ^ count)))
-    ∙ ap (λ x. int_wrap w64 (x *ℤ pos (2 ^ count))) (wrap_word a small))
+    ∙ ap (λ x. int_wrap w64 (x *ℤ pos (2 ^ count))) (wrap_pos a ∙ ap (cast_signed w64) (mod-eq_of_lt small)))
 
 pub moved : (op : ShiftOperator) (signed : Bool) (a count : ℕ) → a < 2 ^ 64
     → bits_of (whole_shift_of op (read signed a) count) ≡ shift_result op signed a count

@@ -2,7 +2,8 @@
 use Rattle.std.specs.Prelude.{◌≡◌, ℕ, zero, suc, Bool, true, false, ◌&&◌, if◌then◌else◌, List, []}
 use Rattle.std.specs.Prelude.{◌∷◌, Option, None, Some, unwrap_or, slice_get, Result, Ok}
 use Rattle.std.specs.Prelude.{Err, OnOk, OnErr}
-use Rattle.std.proofs.Common.{refl, sym, ap, ◌∙◌, subst, true≢false}
+use Rattle.std.proofs.Common.{refl, sym, ap, ◌∙◌, true≢false}
+use Rattle.std.proofs.lemmas.Bool.{and_parts}
 use Rattle.std.specs.Map.{lookup}
 use Rattle.indexmap.specs.Layout.{set_value_at}
 use Rattle.d_values.specs.Vocabulary.{KeyPart, Kind, Value, Var}
@@ -18,13 +19,10 @@ use Rattle.d_values.specs.Stores.{AreOwn, with_own}
 use Rattle.d_values.specs.Tables.{elements_of, pairs_of}
 use Rattle.d_values.specs.Steps.Tables.{value_in, value_at, Sets}
 
-kind_of-blank : (kind : Kind) → kind_of (blank kind) ≡ kind
-kind_of-blank k.Number = refl
-kind_of-blank k.Text = refl
-
 -- what an entry reads as is of the variable's kind
 kind_read : (kind : Kind) (o : Option Value) → ((value : Value) → o ≡ Some value → kind_of value ≡ kind) → kind_of (unwrap_or o (blank kind)) ≡ kind
-kind_read kind None are = kind_of-blank kind
+kind_read k.Number None are = refl
+kind_read k.Text None are = refl
 kind_read kind (Some value) are = are value refl
 
 pub kind_of-local_of : (locals : Locals) (var : Var) → AreLocals locals → kind_of (local_of locals var) ≡ var.kind
@@ -35,16 +33,11 @@ kind_of-own_of own var key are = kind_read var.kind (own_entry own var key) (λ 
 
 -- what is kept is no blank, and the value itself
 kept_some : (value x : Value) → value_to_keep value ≡ Some x → (is_blank x ≡ false) × (x ≡ value)
-kept_some value x e = elim (is_blank value) as (λ b. is_blank value ≡ b → (if b then None else Some value) ≡ Some x → (is_blank x ≡ false) × (x ≡ value)) [
-  | true ↦ λ b f. absurd (none f)
-  | false ↦ λ b f. (subst (λ v. is_blank v ≡ false) (same f) b, sym (same f))
-] refl e
+kept_some value x e = by (is_blank value) refl e
   where
-    none : ◌≡◌ {A = Option Value} None (Some x) → ⊥
-    none f = cc
-
-    same : Some value ≡ Some x → value ≡ x
-    same f = cc
+    by : (b : Bool) → is_blank value ≡ b → (if b then None else Some value) ≡ Some x → (is_blank x ≡ false) × (x ≡ value)
+    by true blank f = absurd cc
+    by false kept f = let same : x ≡ value = cc in (ap is_blank same ∙ kept, same)
 
 -- all that one variable holds, in another form
 pub holds_by : (old : List (Var × Held)) (var : Var) (key : List KeyPart) (value : Option Value) (held was is : Held) → lookup (same_var var) old ≡ Some held → was ≡ held
@@ -83,10 +76,7 @@ AreLocals-set old new var value are kind sets v x e =
 
 -- the tests of a variable and of a key, together
 both_same : (var v : Var) (key k : List KeyPart) → same_var var v && same_key key k ≡ true → var ≡ v
-both_same var v key k e = elim (same_var var v) as (λ b. same_var var v ≡ b → b && same_key key k ≡ true → var ≡ v) [
-  | true ↦ λ s f. (same_var_decides var v).0 s
-  | false ↦ λ s f. absurd (true≢false (sym f))
-] refl e
+both_same var v key k e = (same_var_decides var v).0 (and_parts _ _ e).0
 
 pub AreOwn-set : (old new : Own) (var : Var) (key : List KeyPart) (value : Value) → AreOwn old → kind_of value ≡ var.kind
     → ((v : Var) (k : List KeyPart) → own_entry new v k ≡ with_own (own_entry old) var key (value_to_keep value) v k) → AreOwn new

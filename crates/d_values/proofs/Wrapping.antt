@@ -65,9 +65,6 @@ below_zero low size small within over =
     cast_signed-high (low + (2 ^ 64 - size)) (omega arith) (omega arith) ∙ negative
 
 module _ (t : IntType) (low : ℕ) (small : low < 2 ^ t.width) where
-  unsigned_number : t.signed ≡ false → number_of t (sign_extension t low) ≡ number_of_bits t low
-  unsigned_number plain = ap (λ s. read s (sign_extension t low)) plain ∙ ap pos (extended_plain t low plain) ∙ sym (typed_plain t low plain)
-
   signed_number : t.signed ≡ true → number_of t (sign_extension t low) ≡ number_of_bits t low
   signed_number signed =
       let size = sizes t.width t.known in
@@ -79,7 +76,10 @@ module _ (t : IntType) (low : ℕ) (small : low < 2 ^ t.width) where
       ]
 
   number-extended : number_of t (sign_extension t low) ≡ number_of_bits t low
-  number-extended = elim t.signed as (λ s. t.signed ≡ s → number_of t (sign_extension t low) ≡ number_of_bits t low) [ true ↦ signed_number | false ↦ unsigned_number ] refl
+  number-extended = elim t.signed as (λ s. t.signed ≡ s → number_of t (sign_extension t low) ≡ number_of_bits t low) [
+    | true ↦ signed_number
+    | false ↦ λ plain. ap (λ s. read s (sign_extension t low)) plain ∙ ap pos (extended_plain t low plain) ∙ sym (typed_plain t low plain)
+  ] refl
 
 pub number-narrow : (t : IntType) (z : ℤ) (word : ℕ) → bits_of z ≡ word → number_of t (narrow t word) ≡ wrap t z
 number-narrow t z word e =

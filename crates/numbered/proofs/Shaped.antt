@@ -36,14 +36,12 @@ shape_below ws k few =
 
 -- ---- words of one shape
 
-abbrev tail_of : List ℕ → List ℕ
+abbrev pub tail_of : List ℕ → List ℕ
 tail_of [] = []
 tail_of (n ∷ ns) = ns
 
 pub digits_same : (m n : ℕ) (vs ws : List Word) → map bits_of vs ≡ map bits_of ws → digits_after m vs ≡ digits_after n ws → (m ≡ n) × (vs ≡ ws)
 digits_same m n [] [] bits e = (e, refl)
-digits_same m n [] (w ∷ ws) bits e = absurd (omega (arith, ap length bits))
-digits_same m n (v ∷ vs) [] bits e = absurd (omega (arith, ap length bits))
 digits_same m n (Int a ∷ vs) (Int b ∷ ws) bits e =
     let rest = digits_same (2 * m + 0) (2 * n + 0) vs ws (ap tail_of bits) e in
     let first : a ≡ b = ap (λ l. get_or l 0 0) bits in
@@ -58,3 +56,4 @@ digits_same m n (Int a ∷ vs) (Text b ∷ ws) bits e =
 digits_same m n (Text a ∷ vs) (Int b ∷ ws) bits e =
     let rest = digits_same (2 * m + 1) (2 * n + 0) vs ws (ap tail_of bits) e in
     absurd (omega (arith, rest.0))
+digits_same m n _ _ bits e = absurd (omega (arith, ap length bits))
