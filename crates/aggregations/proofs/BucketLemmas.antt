@@ -1,9 +1,10 @@
 -- Buckets: labels rise, so that one bucket alone has a number.
-use Rattle.std.proofs.Common.{◌≡◌, ℕ, zero, suc, ◌+◌, ◌-◌, ◌*◌, ◌^◌, ◌<◌, ◌≤◌, ◌==◌, Bool, true}
-use Rattle.std.proofs.Common.{false, cond, ◌&&◌, ◌||◌, ◌⊎◌, inl, inr, refl, sym, ap, ◌∙◌, subst}
-use Rattle.std.proofs.Common.{arith, ◌/◌, min, eq-eqb, ne_eqb}
-use Rattle.std.specs.Prelude.{ℤ, pos, neg_ℤ, ◌+ℤ◌, ◌≤ℤ◌, ◌<ℤ◌, int_le, int_lt}
-use Rattle.std.proofs.lemmas.Bool.{cases_eq, cases_lt, lt-ltb, le-ltb}
+use Rattle.std.proofs.Common.{◌≡◌, ℕ, zero, suc, ◌+◌, ◌-◌, ◌*◌, ◌^◌, ◌<◌, ◌≤◌, ◌==◌, true}
+use Rattle.std.proofs.Common.{false, cond, ◌⊎◌, inl, inr, refl, sym, ap, ◌∙◌, subst, ⊎_elim}
+use Rattle.std.proofs.Common.{arith, ◌/◌, min}
+use Rattle.std.specs.Prelude.{ℤ, pos, neg_ℤ, ◌+ℤ◌, ◌≤ℤ◌, ◌<ℤ◌, int_lt}
+use Rattle.std.proofs.lemmas.Bool.{cases_eq, cases_lt, lt-ltb}
+use Rattle.std.proofs.lemmas.Bool.Decides.{nat_tests}
 use Rattle.std.proofs.lemmas.Int.{ints, by_lt_z}
 use Rattle.std.proofs.Math.Nat.{pow-le-pow_right, div-mul-le_self, lt-div-mul-add, mul-le-mul_right}
 use Rattle.std.proofs.lemmas.Nat.{one_shl}
@@ -14,25 +15,11 @@ use Rattle.aggregations.specs.Vocabulary.{LinearRange, Scale, Powers, Steps}
 use Rattle.aggregations.specs.Buckets.{levels_of, buckets, label, is_greatest_up_to, is_least_from}
 use Rattle.aggregations.specs.Buckets.{is_in}
 
-le_true : (a b : ℤ) → a ≤ℤ b → int_le a b ≡ true
-le_true a b h = grind (arith, ints)
-
-le_false : (a b : ℤ) → b <ℤ a → int_le a b ≡ false
-le_false a b h = grind (arith, ints)
-
 lt_true : (a b : ℤ) → a <ℤ b → int_lt a b ≡ true
 lt_true a b h = grind (arith, ints)
 
 lt_false : (a b : ℤ) → b ≤ℤ a → int_lt a b ≡ false
 lt_false a b h = grind (arith, ints)
-
-and_false : (t : Bool) → (t && false) ≡ false
-and_false true = refl
-and_false false = refl
-
-or_true : (t : Bool) → (t || true) ≡ true
-or_true true = refl
-or_true false = refl
 
 -- ---- labels that rise
 
@@ -52,53 +39,25 @@ rises_from_steps f step i (suc j) le lt = at (λ below. rises_from_steps f step 
 
 pub greatest_only : (f : Scale) (x : ℤ) (r : ℕ) → Rises f → r < buckets f → label f r ≤ℤ x → ((suc r ≡ buckets f) ⊎ (x <ℤ label f (suc r)))
     → (b : ℕ) → b < buckets f → is_greatest_up_to f b x ≡ (b == r)
-greatest_only f x r rises within here next b lt = at (cases_eq b r) (cases_lt b r)
+greatest_only f x r rises within here next b lt = at (cases_eq b r) (cases_lt b r) next
   where
-    last : ((suc r ≡ buckets f) ⊎ (x <ℤ label f (suc r))) → ((suc r == buckets f) || int_lt x (label f (suc r))) ≡ true
-    last (inl e) = ap (λ t. t || int_lt x (label f (suc r))) (eq-eqb (suc r) (buckets f) e)
-    last (inr h) = ap (λ t. (suc r == buckets f) || t) (lt_true x (label f (suc r)) h) ∙ or_true (suc r == buckets f)
-
-    above : ((suc r ≡ buckets f) ⊎ (x <ℤ label f (suc r))) → r < b → int_le (label f b) x ≡ false
-    above (inl e) more = absurd (omega arith)
-    above (inr h) more = let rise = rises (suc r) b more lt in le_false (label f b) x (omega (arith, ints))
-
-    at : ((b ≡ r) ⊎ (b ≡ r → ⊥)) → ((b < r) ⊎ (r ≤ b)) → is_greatest_up_to f b x ≡ (b == r)
-    at (inl e) either =
-        subst (λ k. is_greatest_up_to f k x ≡ (k == r)) (sym e)
-        (ap (λ t. t && ((suc r == buckets f) || int_lt x (label f (suc r)))) (le_true (label f r) x here) ∙ last next ∙ sym (eq-eqb r r refl))
-    at (inr ne) (inl less) =
-        let rise = rises (suc b) r less within in
-        let short = ne_eqb (suc b) (buckets f) (λ e. omega arith) in
-        let past = lt_false x (label f (suc b)) (omega (arith, ints)) in
-        ap (λ t. int_le (label f b) x && (t || int_lt x (label f (suc b)))) short
-        ∙ ap (λ t. int_le (label f b) x && t) past ∙ and_false (int_le (label f b) x) ∙ sym (ne_eqb b r ne)
-    at (inr ne) (inr more) =
-        ap (λ t. t && ((suc b == buckets f) || int_lt x (label f (suc b)))) (above next (let lt : r < b = omega arith in lt)) ∙ sym (ne_eqb b r ne)
+    at : ((b ≡ r) ⊎ (b ≡ r → ⊥)) → ((b < r) ⊎ (r ≤ b)) → ((suc r ≡ buckets f) ⊎ (x <ℤ label f (suc r))) → is_greatest_up_to f b x ≡ (b == r)
+    at (inl e) either (inl last) = subst (λ k. is_greatest_up_to f k x ≡ (k == r)) (sym e) (grind (arith, ints, nat_tests))
+    at (inl e) either (inr h) = subst (λ k. is_greatest_up_to f k x ≡ (k == r)) (sym e) (grind (arith, ints, nat_tests))
+    at (inr ne) (inl less) n = let rise = rises (suc b) r less within in grind (arith, ints, nat_tests)
+    at (inr ne) (inr more) (inl last) = absurd (omega arith)
+    at (inr ne) (inr more) (inr h) = let rise = rises (suc r) b (omega arith) lt in grind (arith, ints, nat_tests)
 
 pub least_only : (f : Scale) (x : ℤ) (r : ℕ) → Rises f → r < buckets f → x ≤ℤ label f r → ((r ≡ 0) ⊎ (label f (r - 1) <ℤ x))
     → (b : ℕ) → b < buckets f → is_least_from f b x ≡ (b == r)
-least_only f x r rises within here before b lt = at (cases_eq b r) (cases_lt b r)
+least_only f x r rises within here before b lt = at (cases_eq b r) (cases_lt b r) before
   where
-    first : ((r ≡ 0) ⊎ (label f (r - 1) <ℤ x)) → ((r == 0) || int_lt (label f (r - 1)) x) ≡ true
-    first (inl e) = ap (λ t. t || int_lt (label f (r - 1)) x) (eq-eqb r 0 e)
-    first (inr h) = ap (λ t. (r == 0) || t) (lt_true (label f (r - 1)) x h) ∙ or_true (r == 0)
-
-    below : ((r ≡ 0) ⊎ (label f (r - 1) <ℤ x)) → b < r → int_le x (label f b) ≡ false
-    below (inl e) less = absurd (omega arith)
-    below (inr h) less = let rise = rises b (r - 1) (omega arith) (omega arith) in le_false x (label f b) (omega (arith, ints))
-
-    at : ((b ≡ r) ⊎ (b ≡ r → ⊥)) → ((b < r) ⊎ (r ≤ b)) → is_least_from f b x ≡ (b == r)
-    at (inl e) either =
-        subst (λ k. is_least_from f k x ≡ (k == r)) (sym e)
-        (ap (λ t. t && ((r == 0) || int_lt (label f (r - 1)) x)) (le_true x (label f r) here) ∙ first before ∙ sym (eq-eqb r r refl))
-    at (inr ne) (inl less) =
-        ap (λ t. t && ((b == 0) || int_lt (label f (b - 1)) x)) (below before less) ∙ sym (ne_eqb b r ne)
-    at (inr ne) (inr more) =
-        let rise = rises r (b - 1) (omega arith) (omega arith) in
-        let some = ne_eqb b 0 (λ e. omega arith) in
-        let past = lt_false (label f (b - 1)) x (omega (arith, ints)) in
-        ap (λ t. int_le x (label f b) && (t || int_lt (label f (b - 1)) x)) some
-        ∙ ap (λ t. int_le x (label f b) && t) past ∙ and_false (int_le x (label f b)) ∙ sym (ne_eqb b r ne)
+    at : ((b ≡ r) ⊎ (b ≡ r → ⊥)) → ((b < r) ⊎ (r ≤ b)) → ((r ≡ 0) ⊎ (label f (r - 1) <ℤ x)) → is_least_from f b x ≡ (b == r)
+    at (inl e) either (inl first) = subst (λ k. is_least_from f k x ≡ (k == r)) (sym e) (grind (arith, ints, nat_tests))
+    at (inl e) either (inr h) = subst (λ k. is_least_from f k x ≡ (k == r)) (sym e) (grind (arith, ints, nat_tests))
+    at (inr ne) (inl less) (inl first) = absurd (omega arith)
+    at (inr ne) (inl less) (inr h) = let rise = rises b (r - 1) (omega arith) (omega arith) in grind (arith, ints, nat_tests)
+    at (inr ne) (inr more) n = let rise = rises r (b - 1) (omega arith) (omega arith) in grind (arith, ints, nat_tests)
 
 -- ---- linear quantization
 
@@ -137,37 +96,20 @@ pub low_label : (b k : ℕ) → b < 63 → 62 - b ≡ k → label Powers b ≡ n
 low_label b k lt is = ap (λ t. cond t (neg_ℤ (pos (2 ^ (62 - b)))) (cond (b == 63) (pos 0) (pos (2 ^ (b - 64))))) (lt-ltb b 63 lt) ∙ ap (λ e. neg_ℤ (pos (2 ^ e))) is
 
 pub high_label : (b k : ℕ) → 64 ≤ b → b - 64 ≡ k → label Powers b ≡ pos (2 ^ k)
-high_label b k le is =
-    ap (λ t. cond t (neg_ℤ (pos (2 ^ (62 - b)))) (cond (b == 63) (pos 0) (pos (2 ^ (b - 64))))) (le-ltb b 63 (omega arith))
-    ∙ ap (λ t. cond t (pos 0) (pos (2 ^ (b - 64)))) (ne_eqb b 63 (λ e. omega arith)) ∙ ap (λ e. pos (2 ^ e)) is
+high_label b k le is = grind (arith, nat_tests)
 
 pub powers : (i j : ℕ) → i ≤ j → 2 ^ i ≤ 2 ^ j
 powers i j le = pow-le-pow_right (omega arith) le
 
 -- what is below a power of two has a lesser power
 pub exponent_lt : (k n m : ℕ) → 2 ^ k ≤ m → m < 2 ^ n → k < n
-exponent_lt k n m le lt = at (cases_lt k n)
-  where
-    at : ((k < n) ⊎ (n ≤ k)) → k < n
-    at (inl h) = h
-    at (inr h) = let p = powers n k h in absurd (omega arith)
+exponent_lt k n m le lt = ⊎_elim (λ (h : k < n). h) (λ (h : n ≤ k). let p = powers n k h in absurd (omega arith)) (cases_lt k n)
 
 pub powers_rise : Rises Powers
-powers_rise = rises_from_steps Powers (λ i lt. step i lt (cases_lt i 62) (cases_eq i 62) (cases_eq i 63))
-  where
-    step : (i : ℕ) → suc i < 127 → ((i < 62) ⊎ (62 ≤ i)) → ((i ≡ 62) ⊎ (i ≡ 62 → ⊥)) → ((i ≡ 63) ⊎ (i ≡ 63 → ⊥)) → label Powers i ≤ℤ label Powers (suc i)
-    step i lt (inl low) e f =
-        let a = low_label i (62 - i) (omega arith) refl in
-        let b = low_label (suc i) (62 - suc i) (omega arith) refl in
-        let p = powers (62 - suc i) (62 - i) (omega arith) in
-        omega (arith, ints)
-    step i lt (inr high) (inl e) f = subst (λ k. label Powers k ≤ℤ label Powers (suc k)) (sym e) (omega (arith, ints))
-    step i lt (inr high) (inr ne) (inl e) = subst (λ k. label Powers k ≤ℤ label Powers (suc k)) (sym e) (omega (arith, ints))
-    step i lt (inr high) (inr ne) (inr ne') =
-        let a = high_label i (i - 64) (omega arith) refl in
-        let b = high_label (suc i) (suc i - 64) (omega arith) refl in
-        let p = powers (i - 64) (suc i - 64) (omega arith) in
-        omega (arith, ints)
+powers_rise = rises_from_steps Powers (λ i lt.
+    let below = powers (62 - suc i) (62 - i) (omega arith) in
+    let above = powers (i - 64) (suc i - 64) (omega arith) in
+    grind (arith, ints, nat_tests))
 
 -- a number above zero
 pub above_zero : (x : ℤ) (m k : ℕ) → x ≡ pos m → 2 ^ k ≤ m → m < 2 ^ (k + 1) → k < 63

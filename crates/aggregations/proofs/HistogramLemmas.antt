@@ -57,22 +57,14 @@ changed_at f g n k v within here others =
 abbrev pub seen : Scale → List ℕ → Histogram
 seen f counts = record { scale = f; counts = counts }
 
-pub count_used : (f : Scale) (used : List (ℕ × ℕ)) (b : ℕ) → b < buckets f → get_or (counts_used f used) b 0 ≡ used_at used b
-count_used f used b lt = table_at (used_at used) (buckets f) b lt
-
-more_used : (f : Scale) (old new : List (ℕ × ℕ)) (k more : ℕ) → k < buckets f → used_at new k ≡ used_at old k + more
-    → ((q : ℕ) → q ≢ k → used_at new q ≡ used_at old q) → seen f (counts_used f new) ≡ with_more (seen f (counts_used f old)) k more
-more_used f old new k more within here others =
-    ap (seen f) (changed_at (used_at old) (used_at new) (buckets f) k (get_or (counts_used f old) k 0 + more) within
-    (here ∙ ap (λ n. n + more) (sym (count_used f old k within))) (λ b lt ne. others b ne))
-
 -- a bucket gets more
 pub put_used : (f : Scale) (old new : List (ℕ × ℕ)) (k more : ℕ) → k < buckets f
     → ((q : ℕ) → lookup (nat_eq q) new ≡ cond (nat_eq k q) (Some (used_at old k + more)) (lookup (nat_eq q) old))
     → seen f (counts_used f new) ≡ with_more (seen f (counts_used f old)) k more
-put_used f old new k more within up = more_used f old new k more within
-    (ap (λ o. unwrap_or o 0) (up k ∙ ap (λ b. cond b (Some (used_at old k + more)) (lookup (nat_eq k) old)) (eq-eqb k k refl)))
-    (λ q ne. ap (λ o. unwrap_or o 0) (up q ∙ ap (λ b. cond b (Some (used_at old k + more)) (lookup (nat_eq q) old)) (ne_eqb k q (λ e. ne (sym e)))))
+put_used f old new k more within up =
+    ap (seen f) (changed_at (used_at old) (used_at new) (buckets f) k (get_or (counts_used f old) k 0 + more) within
+    (ap (λ o. unwrap_or o 0) (up k ∙ ap (λ b. cond b (Some (used_at old k + more)) (lookup (nat_eq k) old)) (eq-eqb k k refl)) ∙ ap (λ n. n + more) (sym (table_at (used_at old) (buckets f) k within)))
+    (λ q lt ne. ap (λ o. unwrap_or o 0) (up q ∙ ap (λ b. cond b (Some (used_at old k + more)) (lookup (nat_eq q) old)) (ne_eqb k q (λ e. ne (sym e))))))
 
 -- ---- one more argument
 
@@ -126,9 +118,6 @@ buckets_rest f k m rest are = record {
 sum-changed : (xs : List ℕ) (k more : ℕ) → k < length xs → sum (set xs k (get_or xs k 0 + more)) ≡ sum xs + more
 sum-changed xs k more within = let s = sum_by-set (λ n. n) xs k (get_or xs k 0 + more) 0 within in omega arith
 
-pub sum-with_more : (h : Histogram) (k more : ℕ) → k < length h.counts → sum (with_more h k more).counts ≡ sum h.counts + more
-sum-with_more h k more within = sum-changed h.counts k more within
-
 -- the counts with one more bucket
 pub sum-front : (f : Scale) (k m : ℕ) (rest : List (ℕ × ℕ)) → AreBuckets f ((k, m) ∷ rest)
     → sum (counts_used f ((k, m) ∷ rest)) ≡ sum (counts_used f rest) + m
@@ -136,7 +125,7 @@ sum-front f k m rest are =
     let within = (buckets_front f k m rest are).0 in
     ap sum (changed_at (used_at rest) (used_at ((k, m) ∷ rest)) (buckets f) k (get_or (counts_used f rest) k 0 + m) within
     (let gone : used_at rest k ≡ 0 = ap (λ o. unwrap_or o 0) (gone_after f k m rest are) in
-    let was = count_used f rest k within in
+    let was = table_at (used_at rest) (buckets f) k within in
     let front = front_used k m rest in
     omega arith)
     (λ b lt ne. passed_used k m b rest ne))
@@ -168,7 +157,7 @@ buckets_kept f used kept = record { apart = kept.apart; each = kept.each }
 
 -- what is kept for a bucket is its count, and past the last bucket nothing is
 pub count_kept : (f : Scale) (used : List (ℕ × ℕ)) (b : ℕ) → AreUsed f used → get_or (counts_used f used) b 0 ≡ used_at used b
-count_kept f used b kept = ⊎_elim (λ (lt : b < buckets f). count_used f used b lt)
+count_kept f used b kept = ⊎_elim (λ (lt : b < buckets f). table_at (used_at used) (buckets f) b lt)
     (λ (le : buckets f ≤ b). get_or_past (counts_used f used) b 0 (subst (λ n. n ≤ b) (sym (length-table (used_at used) (buckets f))) le) ∙ sym (nothing (lookup (nat_eq b) used) refl le))
     (cases_lt b (buckets f))
   where
@@ -185,7 +174,7 @@ kept_put f old new k more within some was room up apart = record {
       (λ (ne : q ≡ k → ⊥). was.each q n (sym (up q ∙ ap (λ b. cond b (Some (used_at old k + more)) (lookup (nat_eq q) old)) (ne_eqb k q (λ e. ne (sym e)))) ∙ there))
       (cases_eq q k);
   few =
-      let sums = sum-with_more (seen f (counts_used f old)) k more (subst (λ n. k < n) (sym (length-table (used_at old) (buckets f))) within) in
+      let sums = sum-changed (counts_used f old) k more (subst (λ n. k < n) (sym (length-table (used_at old) (buckets f))) within) in
       let e : sum (counts_used f new) ≡ sum (with_more (seen f (counts_used f old)) k more).counts = ap (λ h. sum h.counts) (put_used f old new k more within up) in
       omega arith;
 }
@@ -218,7 +207,7 @@ joining_start f g first other all same len is many used = record {
   scale = same;
   length = len;
   are = record { apart = used.apart; each = λ b m there. let e = used.each b m there in (subst (λ n. b < n) (sym many) e.0, e.1) };
-  counts = λ b lt. ap (λ n. get_or first.counts b 0 + n) (sym (count_used g all b (subst (λ n. b < n) many lt)) ∙ ap (λ h. get_or h.counts b 0) is);
+  counts = λ b lt. ap (λ n. get_or first.counts b 0 + n) (sym (table_at (used_at all) (buckets g) b (subst (λ n. b < n) many lt)) ∙ ap (λ h. get_or h.counts b 0) is);
   held = ap (λ l. sum first.counts + sum l) (ap (λ n. map (used_at all) (range_with_len 0 n)) many ∙ ap (λ h. h.counts) is);
 }
 
@@ -230,9 +219,8 @@ joining_more f first other now rest k m j = record {
   are = buckets_rest f k m rest j.are;
   counts = λ b lt. at b lt (cases_eq b k);
   held =
-      let more = sum-with_more now k m (subst (λ n. k < n) (sym j.length) within) in
+      let more = sum-changed now.counts k m (subst (λ n. k < n) (sym j.length) within) in
       let front = sum-front f k m rest j.are in
-      let all = j.held in
       omega arith;
 }
   where

@@ -1,5 +1,5 @@
 -- An entry that is found by its index among the entries.
-use Rattle.std.specs.Prelude.{◌≡◌, ◌≢◌, ◌<◌, ◌+◌, ◌≤◌, ℕ, zero, suc, ℤ, List, [], ◌∷◌, ◌++◌, Option}
+use Rattle.std.specs.Prelude.{◌≡◌, ◌<◌, ◌+◌, ◌≤◌, ℕ, zero, suc, ℤ, List, [], ◌∷◌, Option}
 use Rattle.std.specs.Prelude.{Some, length, slice_get, sum_by, get_or, set, ⊤, Result, OnOk}
 use Rattle.std.proofs.Common.{refl, sym, ap, ◌∙◌, subst, arith, cond}
 use Rattle.std.specs.declared.alloc.AllocError.{AllocError}
@@ -19,7 +19,7 @@ use Rattle.aggregations.specs.Steps.Entries.{Adds, Joins, Notes, Puts, Takes}
 use Rattle.aggregations.specs.Steps.Values.{TakesBoth, TakesOne}
 use Rattle.aggregations.specs.Table.{Aggregation, count_of}
 use Rattle.aggregations.specs.Vocabulary.{AllOrNothing, IsAt, same_key}
-use Rattle.aggregations.proofs.TableLemmas.{joins_there}
+use Rattle.aggregations.proofs.TableLemmas.{joins_there, push_some}
 
 -- the value that is there already
 pub set_same : (es : List (List KeyPart × Held)) (i : ℕ) (key : List KeyPart) (held : Held) → slice_get es i ≡ Some (key, held) → set_value_at es i held ≡ es
@@ -60,10 +60,6 @@ pub at_view : (m now : Aggregation) (i : ℕ) (key : List KeyPart) → m ≡ now
 at_view m now i key is at = subst (λ (a : Aggregation). IsAt same_key a.entries i key) is at
 
 -- ---- one argument more, or those of another entry
-
-push_some : (args : List ℤ) (arg : ℤ) → args ++ arg ∷ [] ≢ []
-push_some [] arg e = cc
-push_some (x ∷ xs) arg e = cc
 
 notes_there : (f : AggFn) (old : Held) (arg : ℤ) (new : Held) → TakesOne old arg new → Notes f (Some old) arg (Some new)
 notes_there f old arg new takes args is = (push_some args arg, takes f args is.1)

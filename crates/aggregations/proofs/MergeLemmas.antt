@@ -176,7 +176,4 @@ tables_all first all now xs ys same m stands stands_all agg key =
         let takes = m.done agg old more new (omega arith) a b c in
         subst (λ g. IsEntry g (entry_at key new) (arguments_of agg key xs ++ arguments_of agg key ys)) (sym kept)
         (takes key (arguments_of agg key xs) (arguments_of agg key ys) hx (subst (λ g. IsEntry g (entry_at key more) (arguments_of agg key ys)) (sym one) hy))
-    at None (Some old) ob c a b e f hx hy = absurd cc
-    at (Some new) None ob c a b e f hx hy = absurd cc
-    at None None (Some more) c a b e f hx hy = absurd cc
-    at (Some new) (Some old) None c a b e f hx hy = absurd cc
+    at _ _ _ c a b e f hx hy = absurd cc

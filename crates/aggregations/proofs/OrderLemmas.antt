@@ -1,6 +1,6 @@
 -- What a table stands for doesn't depend on the order of the contributions.
 use Rattle.std.proofs.Common.{◌≡◌, ℕ, zero, suc, ◌+◌, ◌<◌, true, false, cond, List}
-use Rattle.std.proofs.Common.{[], ◌∷◌, length, get_or, All, Contains, sum_by, count_by, Option}
+use Rattle.std.proofs.Common.{[], ◌∷◌, length, get_or, All, Contains, sum_by, Option}
 use Rattle.std.proofs.Common.{None, Some, refl, sym, ap, ◌∙◌, subst, ⊎_elim, zero-add, arith, map}
 use Rattle.std.proofs.Common.{filter}
 use Rattle.std.specs.Prelude.{ℤ, pos, negsuc, ◌+ℤ◌, ◌≤ℤ◌, slice_get}
@@ -23,7 +23,7 @@ use Rattle.aggregations.specs.declared.held.Held.TheVariants.{Counted, Summed, L
 use Rattle.aggregations.specs.declared.held.Held.TheVariants.{Mean, Counts}
 use Rattle.aggregations.specs.Buckets.{buckets, is_in, counts_of}
 use Rattle.aggregations.specs.Values.{total, IsValue}
-use Rattle.aggregations.proofs.Measures.{is_for, IsLeast, IsGreatest, IsSum}
+use Rattle.aggregations.proofs.Measures.{is_for, IsSum}
 use Rattle.aggregations.specs.Table.{Contribution, Aggregation, SameItems, arguments_of}
 use Rattle.aggregations.specs.Table.{entry_at, IsEntry, HasEntry, StandsFor}
 use Rattle.aggregations.proofs.HistogramLemmas.{seen}
@@ -103,28 +103,21 @@ same_all : (P : ℤ → Type 0) (xs ys : List ℤ) → SameItems xs ys → All P
 same_all P xs ys same all =
     All-weaker (Contains ys) P (λ y there. All-contains P xs y all (same_contains y ys xs (λ weight. sym (same weight)) there)) ys (All-contains_itself ys)
 
-same_least : (m : ℤ) (xs ys : List ℤ) → SameItems xs ys → IsLeast m xs → IsLeast m ys
-same_least m xs ys same h = (same_contains m xs ys same h.0, same_all (λ x. m ≤ℤ x) xs ys same h.1)
-
-same_greatest : (m : ℤ) (xs ys : List ℤ) → SameItems xs ys → IsGreatest m xs → IsGreatest m ys
-same_greatest m xs ys same h = (same_contains m xs ys same h.0, same_all (λ x. x ≤ℤ m) xs ys same h.1)
+same_picked : (P : ℤ → Type 0) (m : ℤ) (xs ys : List ℤ) → SameItems xs ys → Contains xs m × All P xs → Contains ys m × All P ys
+same_picked P m xs ys same h = (same_contains m xs ys same h.0, same_all P xs ys same h.1)
 
 pub same_sum : (s : ℤ) (xs ys : List ℤ) → SameItems xs ys → IsSum s xs → IsSum s ys
 same_sum s xs ys same h = h ∙ ap (int_wrap w64) (same_total xs ys same)
 
 same_counts : (f : Scale) (xs ys : List ℤ) → SameItems xs ys → counts_of f xs ≡ counts_of f ys
-same_counts f xs ys same = each (range_with_len 0 (buckets f))
-  where
-    each : (bs : List ℕ) → map (λ b. count_by (is_in f b) xs) bs ≡ map (λ b. count_by (is_in f b) ys) bs
-    each [] = refl
-    each (b ∷ bs) = ap (λ n. n ∷ map (λ b. count_by (is_in f b) xs) bs) (same (λ x. cond (is_in f b x) 1 0)) ∙ ap (λ l. count_by (is_in f b) ys ∷ l) (each bs)
+same_counts f xs ys same i = map (λ b. same (λ x. cond (is_in f b x) 1 0) i) (range_with_len 0 (buckets f))
 
 -- no value depends on the order
 pub same_value : (f : AggFn) (p : Held) (xs ys : List ℤ) → SameItems xs ys → IsValue f p xs → IsValue f p ys
 same_value Count (Counted n) xs ys same h = h ∙ same_length xs ys same
 same_value Sum (Summed s) xs ys same h = same_sum s xs ys same h
-same_value Min (Least m) xs ys same h = same_least m xs ys same h
-same_value Max (Greatest m) xs ys same h = same_greatest m xs ys same h
+same_value Min (Least m) xs ys same h = same_picked (λ x. m ≤ℤ x) m xs ys same h
+same_value Max (Greatest m) xs ys same h = same_picked (λ x. x ≤ℤ m) m xs ys same h
 same_value Avg (Mean m) xs ys same h = (same_sum m.sum xs ys same h.0, h.1 ∙ same_length xs ys same)
 same_value Quantize (Counts h) xs ys same is = is ∙ ap (seen Powers) (same_counts Powers xs ys same)
 same_value (Lquantize r) (Counts h) xs ys same is = is ∙ ap (seen (Steps r)) (same_counts (Steps r) xs ys same)

@@ -1,22 +1,22 @@
 -- The sum of label times count, over the buckets that were used.
 use Rattle.std.proofs.Common.{◌≡◌, ◌≢◌, ℕ, zero, suc, ◌+◌, ◌-◌, ◌*◌, ◌^◌, ◌<◌, ◌≤◌, ◌⊎◌, inl, inr}
-use Rattle.std.proofs.Common.{Bool, true, ◌&&◌, List, [], ◌∷◌, refl, sym, ap, ◌∙◌, subst}
-use Rattle.std.proofs.Common.{arith, rules, tests, sum, map}
-use Rattle.std.specs.Prelude.{ℤ, pos, neg_ℤ, ◌+ℤ◌, ◌*ℤ◌, ◌≤ℤ◌, ◌<ℤ◌, int_le, int_lt, nat_le}
+use Rattle.std.proofs.Common.{Bool, ◌&&◌, List, [], ◌∷◌, refl, sym, ap, ◌∙◌, subst}
+use Rattle.std.proofs.Common.{arith, sum, map}
+use Rattle.std.specs.Prelude.{ℤ, pos, neg_ℤ, ◌+ℤ◌, ◌*ℤ◌, ◌≤ℤ◌, ◌<ℤ◌, int_le, int_lt}
 use Rattle.std.specs.Prelude.{unsigned_abs}
 use Rattle.std.specs.List.{range_with_len, enumerate_from}
 use lib.IntN.{*ℤ-zero}
-use Rattle.std.proofs.lemmas.Bool.{and_parts, cases_eq, cases_lt}
+use Rattle.std.proofs.lemmas.Bool.{cases_eq}
+use Rattle.std.proofs.lemmas.Bool.Decides.{nat_tests}
 use Rattle.std.proofs.lemmas.Int.{ints, unsigned_abs-mul}
 use Rattle.std.proofs.Math.Nat.{mul-le-mul_right}
 use Rattle.aggregations.specs.Vocabulary.{LinearRange, Scale, Powers, Steps}
-use Rattle.aggregations.specs.Ranges.{is_one_to}
 use Rattle.aggregations.specs.Buckets.{buckets, label, levels_of}
 use Rattle.aggregations.specs.Values.{total}
 use Rattle.aggregations.specs.Figures.{rank_of}
 use Rattle.aggregations.specs.Figures.Figure.{Distribution}
 use Rattle.aggregations.specs.Histograms.{used_at, counts_used}
-use Rattle.aggregations.proofs.BucketLemmas.{low_label, high_label, powers, steps_small}
+use Rattle.aggregations.proofs.BucketLemmas.{powers, steps_small}
 use Rattle.aggregations.proofs.HistogramLemmas.{AreBuckets, buckets_front, buckets_rest, front_used}
 use Rattle.aggregations.proofs.HistogramLemmas.{passed_used, gone_used, sum-front, seen}
 
@@ -60,12 +60,11 @@ rank-weight f used = ap total (map-enumerate (λ b n. label f b *ℤ pos n) (use
 
 weight-none : (f : Scale) → weight f [] ≡ pos 0
 unfolding weight
-weight-none f = each 0 (buckets f)
+weight-none f = (λ i. total (map (λ b. *ℤ-zero (label f b) i) (range_with_len 0 (buckets f)))) ∙ zeros (range_with_len 0 (buckets f))
   where
-    each : (a n : ℕ) → total (map (λ b. label f b *ℤ pos (used_at [] b)) (range_with_len a n)) ≡ pos 0
-    each a zero = refl
-    each a (suc n) = ap (λ z. z +ℤ total (map (λ b. label f b *ℤ pos (used_at [] b)) (range_with_len (a + 1) n))) (*ℤ-zero (label f a))
-        ∙ ap (λ z. pos 0 +ℤ z) (each (a + 1) n)
+    zeros : (bs : List ℕ) → total (map (λ b. pos 0) bs) ≡ pos 0
+    zeros [] = refl
+    zeros (b ∷ bs) = let more = zeros bs in omega (arith, ints)
 
 weight-front : (f : Scale) (k m : ℕ) (rest : List (ℕ × ℕ)) → AreBuckets f ((k, m) ∷ rest)
     → weight f ((k, m) ∷ rest) ≡ label f k *ℤ pos m +ℤ weight f rest
@@ -78,55 +77,25 @@ weight-front f k m rest are = total_more (λ b. label f b *ℤ pos (used_at ((k,
 
 -- ---- labels are small
 
-pub power_small : (b : ℕ) → b < 127 → unsigned_abs (label Powers b) ≤ 2 ^ 62
-power_small b lt = at (cases_lt b 63) (cases_eq b 63)
-  where
-    at : ((b < 63) ⊎ (63 ≤ b)) → ((b ≡ 63) ⊎ (b ≡ 63 → ⊥)) → unsigned_abs (label Powers b) ≤ 2 ^ 62
-    at (inl low) either =
-        let is = low_label b (62 - b) low refl in
-        let p = powers (62 - b) 62 (omega arith) in
-        omega (arith, ints)
-    at (inr high) (inl e) = subst (λ i. unsigned_abs (label Powers i) ≤ 2 ^ 62) (sym e) (omega (arith, ints))
-    at (inr high) (inr ne) =
-        let is = high_label b (b - 64) (omega arith) refl in
-        let p = powers (b - 64) 62 (omega arith) in
-        omega (arith, ints)
-
 abbrev pub are_bounds : ℤ → ℤ → Bool
 are_bounds lower upper = int_le (neg_ℤ (pos (2 ^ 31))) lower && int_lt lower upper && int_lt upper (pos (2 ^ 31))
 
 -- what a range keeps, as numbers
 pub range_known : (r : LinearRange) → (neg_ℤ (pos (2 ^ 31)) ≤ℤ r.lower) × (r.lower <ℤ pos (2 ^ 31)) × (r.step ≤ 65535) × (levels_of r ≤ 65535)
 range_known r =
-    let all = and_parts (are_bounds r.lower r.upper && is_one_to 65535 r.step) (is_one_to 65535 (levels_of r)) r.in_range in
-    let front = and_parts (are_bounds r.lower r.upper) (is_one_to 65535 r.step) all.0 in
-    let bounds = and_parts (int_le (neg_ℤ (pos (2 ^ 31))) r.lower && int_lt r.lower r.upper) (int_lt r.upper (pos (2 ^ 31))) front.0 in
-    let lower = and_parts (int_le (neg_ℤ (pos (2 ^ 31))) r.lower) (int_lt r.lower r.upper) bounds.0 in (
-      at_least (neg_ℤ (pos (2 ^ 31))) r.lower lower.0,
-      omega (arith, ints, below r.lower r.upper lower.1, below r.upper (pos (2 ^ 31)) bounds.1),
-      at_most r.step (and_parts (nat_le 1 r.step) (nat_le r.step 65535) front.1).1,
-      at_most (levels_of r) (and_parts (nat_le 1 (levels_of r)) (nat_le (levels_of r) 65535) all.1).1,
-    )
-  where
-    at_least : (a b : ℤ) → int_le a b ≡ true → a ≤ℤ b
-    at_least a b e = grind (arith, ints)
+    let known = r.in_range in
+    (grind (arith, ints, nat_tests), grind (arith, ints, nat_tests), grind (arith, ints, nat_tests), grind (arith, ints, nat_tests))
 
-    below : (a b : ℤ) → int_lt a b ≡ true → a <ℤ b
-    below a b e = grind (arith, ints)
-
-    at_most : (n : ℕ) → nat_le n 65535 ≡ true → n ≤ 65535
-    at_most n e = search (rules, tests)
-
-pub level_small : (r : LinearRange) (b : ℕ) → b < levels_of r + 2 → unsigned_abs (label (Steps r) b) ≤ 2 ^ 62
-level_small r zero lt = let known = range_known r in omega (arith, ints, known.0, known.1)
-level_small r (suc i) lt =
+pub label_small : (f : Scale) (b : ℕ) → b < buckets f → unsigned_abs (label f b) ≤ 2 ^ 62
+label_small Powers b lt =
+    let low = powers (62 - b) 62 (omega arith) in
+    let high = powers (b - 64) 62 (omega arith) in
+    grind (arith, ints, nat_tests)
+label_small (Steps r) zero lt = let known = range_known r in omega (arith, ints, known.0, known.1)
+label_small (Steps r) (suc i) lt =
     let known = range_known r in
     let p = steps_small i r.step (omega (arith, known.3)) (omega (arith, known.2)) in
     omega (arith, ints, known.0, known.1)
-
-pub label_small : (f : Scale) (b : ℕ) → b < buckets f → unsigned_abs (label f b) ≤ 2 ^ 62
-label_small Powers b lt = power_small b lt
-label_small (Steps r) b lt = level_small r b lt
 
 -- ---- a loop over the buckets
 
@@ -161,8 +130,6 @@ pub ranking_fits : (f : Scale) (all rest : List (ℕ × ℕ)) (k m : ℕ) (rank 
     → (unsigned_abs (label f k *ℤ pos m) ≤ 2 ^ 114) × (unsigned_abs (rank +ℤ label f k *ℤ pos m) ≤ 2 ^ 114)
 ranking_fits f all rest k m rank few r =
     let front = sum-front f k m rest r.are in
-    let was = r.counted in
-    let low = r.small in
     let p = product_small f k m (buckets_front f k m rest r.are).0 in
     (omega arith, omega (arith, ints))
 

@@ -1,8 +1,7 @@
 -- Values of lists joined, and of lists with one more argument.
 use Rattle.std.proofs.Common.{◌≡◌, ◌≢◌, ◌≤◌, ℕ, ◌+◌, List, [], ◌∷◌, ◌++◌, length, refl, sym, ap}
-use Rattle.std.proofs.Common.{◌∙◌, subst, arith, rules, length-append, sum, map, count_by, Some, None}
+use Rattle.std.proofs.Common.{◌∙◌, subst, arith, rules, length-append, sum, Some, None}
 use Rattle.std.specs.List.{range_with_len}
-use Rattle.std.proofs.lemmas.List.Sums.{sum_by-cons}
 use Rattle.std.specs.Prelude.{ℤ, ◌+ℤ◌, ◌≤ℤ◌, ◌<ℤ◌}
 use Rattle.std.specs.Int.{int_wrap, int_min, int_max}
 use mir.Syntax.{w64}
@@ -15,8 +14,9 @@ use Rattle.aggregations.specs.declared.held.Held.{Held}
 use Rattle.aggregations.specs.declared.held.Held.TheVariants.{Counted, Summed, Least, Greatest}
 use Rattle.aggregations.specs.declared.held.Held.TheVariants.{Mean, Counts}
 use Rattle.aggregations.specs.Histograms.{Histogram, histogram_of}
-use Rattle.aggregations.specs.Buckets.{buckets, counts_of, is_in, scale_of}
+use Rattle.aggregations.specs.Buckets.{buckets, counts_of, scale_of}
 use Rattle.aggregations.specs.Values.{total, IsValue}
+use Rattle.aggregations.proofs.HistogramLemmas.{none_used}
 use Rattle.aggregations.proofs.Measures.{IsSum, IsLeast, IsGreatest}
 use Rattle.aggregations.specs.Steps.Values.{TakesOne}
 use Rattle.aggregations.specs.Values.{count_in}
@@ -75,10 +75,6 @@ pub noted_as : (old new p q : Held) (x : ℤ) → old ≡ p → new ≡ q → Ta
 noted_as old new p q x was is takes =
     subst (λ h. TakesOne h x new) (sym was) (subst (λ h. TakesOne p x h) (sym is) takes)
 
-none_in : (f : Scale) (bs : List ℕ) → sum (map (λ b. count_by (is_in f b) []) bs) ≡ 0
-none_in f [] = refl
-none_in f (b ∷ bs) = let more = none_in f bs in let e = sum_by-cons (λ x. x) 0 (map (λ b. count_by (is_in f b) []) bs) in omega arith
-
 -- a function with a scale makes histograms
 pub scaled_value : (f : AggFn) (scale : Scale) (h : Histogram) (args : List ℤ) → scale_of f ≡ Some scale → h ≡ histogram_of scale args → IsValue f (Counts h) args
 scaled_value Quantize scale h args e is = is ∙ ap (λ s. histogram_of s args) (sym (same_Some Powers scale e))
@@ -87,7 +83,7 @@ scaled_value _ scale h args e is = absurd cc
 
 -- a histogram without arguments holds no counts
 pub sum-none : (f : Scale) → sum (counts_of f []) ≡ 0
-sum-none f = none_in f (range_with_len 0 (buckets f))
+sum-none f = none_used (range_with_len 0 (buckets f))
 
 -- ---- lists joined, by what is held
 
@@ -104,12 +100,8 @@ counts_joined _ h more new xs ys step a b = absurd a
 
 -- the histogram that is held
 pub held_histogram : (held : Held) (h : Histogram) → histogram_in (figure_of held) ≡ Some h → held ≡ Counts h
-held_histogram (Counted n) h is = cc
-held_histogram (Summed s) h is = cc
-held_histogram (Least m) h is = cc
-held_histogram (Greatest m) h is = cc
-held_histogram (Mean m) h is = cc
 held_histogram (Counts x) h is = ap Counts (same_Some x h is)
+held_histogram _ h is = cc
 
 pub no_histogram : (held : Held) → histogram_in (figure_of held) ≡ None → (h : Histogram) → held ≡ Counts h → ⊥
 no_histogram held none h is = let some : histogram_in (figure_of held) ≡ Some h = ap (λ x. histogram_in (figure_of x)) is in cc
@@ -143,11 +135,7 @@ both_after _ _ number _ xs ys a b = absurd (search rules)
 
 pub count_after : (p : Held) (x : ℤ) (k : ℕ) → count_in (after p x k) ≤ count_in p + k
 count_after (Counted n) x k = omega arith
-count_after (Summed s) x k = omega arith
-count_after (Least m) x k = omega arith
-count_after (Greatest m) x k = omega arith
-count_after (Mean m) x k = omega arith
-count_after (Counts h) x k = omega arith
+count_after _ x k = omega arith
 
 -- ---- there is a value
 

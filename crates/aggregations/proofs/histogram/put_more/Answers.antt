@@ -22,7 +22,6 @@ overflow_add-count c =
     let found = c.pair_mut-count.result in
     let same = same_pair _ _ found.1.now at.held (sym c.pair_mut-count.ensures.value ∙ at.entry) in
     let is : used_at c.args.used.now.entries c.args.bucket ≡ at.held = ap (λ o. unwrap_or o 0) at.found in
-    let room = c.requires in
     omega arith
 
 pub returns-clause-ok : goal.returns-clause-ok

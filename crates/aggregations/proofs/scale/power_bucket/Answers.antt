@@ -8,7 +8,6 @@ pub overflow_add-result : goal.overflow_add-result
 overflow_add-result c =
     let k = c.top_bit-else-x-eq0.result in
     let m = c.unsigned_abs-else-x-eq0.result in
-    let bound = c.unsigned_abs-else-x-eq0.ensures.bound in
     let small : k < 64 = exponent_lt k 64 m c.top_bit-else-x-eq0.ensures.at_least (omega arith) in
     omega arith
 

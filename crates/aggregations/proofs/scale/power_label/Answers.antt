@@ -1,4 +1,4 @@
-use Rattle.std.proofs.Common.{◌-◌, ◌<◌, arith, sym, subst, ◌∙◌}
+use Rattle.std.proofs.Common.{◌-◌, arith, sym, subst, ◌∙◌}
 use Rattle.std.specs.Prelude.{pos, ◌-ℤ◌, FitsSigned}
 use mir.Syntax.{w64}
 use Rattle.std.proofs.lemmas.Int.{ints}
@@ -14,7 +14,4 @@ overflow_sub-result-then-bucket-lt63 c =
 pub returns-else-bucket-eq63 : goal.returns-else-bucket-eq63
 returns-else-bucket-eq63 c =
     let b = c.args.bucket in
-    let most : b < 127 = c.requires in
-    let past = c.if-bucket-eq63.false in
-    let not_below = c.if-bucket-lt63.false in
     power_shifted (b - 64) (omega arith) ∙ sym (high_label b (b - 64) (omega arith) (omega arith))

@@ -6,7 +6,6 @@ use Rattle.aggregations.proofs.scale.top_bit.Goals as goal
 pub returns : goal.returns
 returns c =
     let n = c.args.n in
-    let range = c.ranges.n in
     let fits : n < 2 ^ 64 = omega arith in
     let top = leading_top 64 n c.requires fits in
     let sum = top.1 in

@@ -12,7 +12,6 @@ put_more-requires c =
     let f = c.self.inside.scale in
     let used = c.self.inside.used.entries in
     let few : used_at used c.args.bucket ≤ sum c.args.self.now.counts = subst (λ h. used_at used c.args.bucket ≤ sum h.counts) c.self.view_is (count-le_sum f used c.args.bucket c.self.invariant) in
-    let room = c.requires.room in
     omega arith
 
 by_result : {X E P Q R G : Type 0} (r : Result X E) → OnOk r P → OnOk r Q → OnErr r R → (P → Q → G) → (R → G) → G

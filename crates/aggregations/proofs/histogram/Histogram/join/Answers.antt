@@ -26,7 +26,6 @@ add-requires c =
     let j = subst (λ l. Joining f c.args.self.now c.args.other.now l c.loop-bucket.self) c.in-Some.ensures.steps c.loop-bucket.invariant in
     let (bucket, some) = buckets_front f c.in-Some.bucket.now c.in-Some.more.now rest j.are in
     let room = joining_room f c.args.self.now c.args.other.now c.loop-bucket.self rest c.in-Some.bucket.now c.in-Some.more.now j in
-    let few = c.requires in
     record { bucket = subst (λ g. c.in-Some.bucket.now < buckets g) (sym j.scale) bucket; some = some; room = omega arith }
 
 pub loop-bucket-preserved : goal.loop-bucket-preserved
@@ -51,10 +50,9 @@ returns-in-None-clause-value c = λ scale xs ys a b.
     (joining_all f first other now xs ys j (subst (λ g. first ≡ histogram_of g xs) (sym is) a) (subst (λ g. other ≡ histogram_of g ys) (sym is) b))
 
 pub returns-in-None-clause-count : goal.returns-in-None-clause-count
-returns-in-None-clause-count c = let held = c.loop-bucket.invariant.held in omega arith
+returns-in-None-clause-count c = omega arith
 
 pub returns-in_err-add-clause-count : goal.returns-in_err-add-clause-count
 returns-in_err-add-clause-count c =
-    let held = c.loop-bucket.invariant.held in
     let same : sum c.add.new.self.counts ≡ sum c.loop-bucket.self.counts = ap (λ h. sum h.counts) c.in_err-add.ensures.err in
     omega arith

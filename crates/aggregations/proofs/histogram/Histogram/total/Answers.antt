@@ -8,7 +8,6 @@ sum-requires-clause-fits c =
     let f = c.self.inside.scale in
     let used = c.self.inside.used.entries in
     let is = sum-used f used (buckets_kept f used c.self.invariant) in
-    let few = c.self.invariant.few in
     let fits : sum (values_of used) < 2 ^ 64 = omega arith in
     search rules
 
@@ -18,5 +17,4 @@ returns c =
     let used = c.self.inside.used.entries in
     let is : c.sum.result ≡ sum (values_of used) = search rules in
     let all = sum-used f used (buckets_kept f used c.self.invariant) in
-    let few = c.self.invariant.few in
     record { value = is ∙ sym all ∙ ap (λ h. sum h.counts) c.self.view_is; few = omega arith }

@@ -7,7 +7,6 @@ use Rattle.aggregations.proofs.table.AggTable.add_words.Goals as goal
 pub invariant_of-self : goal.invariant_of-self
 invariant_of-self c =
     let more = (slot_adds c.self.inside.aggregations.items c.args.self.now c.args.agg c.index_mut.result.now c.add_words.new.self (key_made c.args.made) c.args.arg c.add_words.result c.self.view_is c.requires.agg c.index_mut.ensures.value (rw (to_z-of_z w64 c.args.arg (search rules)) at c.add_words.ensures)).held in
-    let room = c.requires.room in
     (omega arith, c.self.invariant.1)
 
 pub returns : goal.returns

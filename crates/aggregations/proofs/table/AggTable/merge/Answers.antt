@@ -1,4 +1,4 @@
-use Rattle.std.proofs.Common.{◌≡◌, [], length, rules, subst, sym}
+use Rattle.std.proofs.Common.{◌≡◌, [], rules, subst, sym}
 use Rattle.aggregations.proofs.MergeLemmas.{MergingTables, tables_all, tables_function}
 use Rattle.aggregations.proofs.MergeLemmas.{tables_functions, tables_more, tables_start}
 use Rattle.aggregations.proofs.table.AggTable.merge.Goals as goal
@@ -14,24 +14,21 @@ loop-more-init c =
 
 pub merge-requires-clause-function : goal.merge-requires-clause-function
 merge-requires-clause-function c =
-    let at : c.len-agg.result ≡ length c.pop.new.self.items = search rules in
     tables_function c.args.self.now c.args.other c.loop-more.self-inside.aggregations.items c.loop-more.rest.items c.pop.new.self.items c.in-Some.more
-    c.requires.functions c.loop-more.invariant.0 c.in-Some.ensures.items c.len-agg.result at c.index_mut.result.now c.index_mut.ensures.value
+    c.requires.functions c.loop-more.invariant.0 c.in-Some.ensures.items c.len-agg.result (search rules) c.index_mut.result.now c.index_mut.ensures.value
 
 pub loop-more-preserved : goal.loop-more-preserved
-loop-more-preserved c =
-    let at : c.len-agg.result ≡ length c.pop.new.self.items = search rules in (
-      tables_more c.args.self.now c.args.other c.loop-more.self-inside.aggregations.items c.loop-more.rest.items c.pop.new.self.items c.in-Some.more
-          c.requires.functions c.loop-more.invariant.0 c.in-Some.ensures.items c.len-agg.result at c.index_mut.result.now c.index_mut.ensures.value
-          c.merge.new.self c.merge.ensures.function c.in_ok-merge.ensures.ok c.merge.ensures.count,
-      c.loop-more.invariant.1,
-    )
+loop-more-preserved c = (
+  tables_more c.args.self.now c.args.other c.loop-more.self-inside.aggregations.items c.loop-more.rest.items c.pop.new.self.items c.in-Some.more
+      c.requires.functions c.loop-more.invariant.0 c.in-Some.ensures.items c.len-agg.result (search rules) c.index_mut.result.now c.index_mut.ensures.value
+      c.merge.new.self c.merge.ensures.function c.in_ok-merge.ensures.ok c.merge.ensures.count,
+  c.loop-more.invariant.1,
+)
 
 pub returns-in_err-merge-clause-functions : goal.returns-in_err-merge-clause-functions
 returns-in_err-merge-clause-functions c =
-    let at : c.len-agg.result ≡ length c.pop.new.self.items = search rules in
     tables_functions c.args.self.now c.args.other c.loop-more.self-inside.aggregations.items c.loop-more.rest.items c.pop.new.self.items c.in-Some.more
-    c.requires.functions c.loop-more.invariant.0 c.in-Some.ensures.items c.len-agg.result at c.index_mut.result.now c.index_mut.ensures.value
+    c.requires.functions c.loop-more.invariant.0 c.in-Some.ensures.items c.len-agg.result (search rules) c.index_mut.result.now c.index_mut.ensures.value
     c.merge.new.self c.merge.ensures.function
 
 pub returns-clause-ok : goal.returns-clause-ok
