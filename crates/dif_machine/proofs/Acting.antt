@@ -23,14 +23,12 @@ kind_none TextKind go = refl
 kind_is : (k : Kind) (value : Value) (other go : Value → Next) → on_kind k (Some value) other ≢ Stuck → on_kind k (Some value) go ≡ go value
 kind_is NumberKind (Int n) other go h = refl
 kind_is TextKind (Text bytes) other go h = refl
-kind_is NumberKind (Text bytes) other go h = absurd (h refl)
-kind_is TextKind (Int n) other go h = absurd (h refl)
+kind_is _ _ other go h = absurd (h refl)
 
 kind_fits : (k : Kind) (value : Value) (go : Value → Next) → on_kind k (Some value) go ≢ Stuck → kind_of value ≡ k
 kind_fits NumberKind (Int n) go h = refl
 kind_fits TextKind (Text bytes) go h = refl
-kind_fits NumberKind (Text bytes) go h = absurd (h refl)
-kind_fits TextKind (Int n) go h = absurd (h refl)
+kind_fits _ _ go h = absurd (h refl)
 
 key_is : (key : List KeyPart) (other next : Next) → on_key key other ≢ Stuck → on_key key next ≡ next
 key_is [] other next h = absurd (h refl)
@@ -57,22 +55,19 @@ module _ (s : Frame) (some vars : Variables) (p o : Object) (g f : Firing) where
   -- ---- variables, where an instruction isn't stuck with some
 
   pub loads : (variable : Variable) (d : Reg) → act (load_of variable d) p g s some ≢ Stuck → act (load_of variable d) o f s vars ≡ Goes (with_value s d (held_in vars variable s.tuple)) vars
-  loads (Local x) d runs = refl
-  loads (Scalar x) d runs = refl
   loads (Element x) d runs = key_is s.tuple (puts s d (held_in some (Element x) s.tuple) some) _ runs
+  loads _ d runs = refl
 
   abbrev goes_on : Variables → Variable → Value → Next
   goes_on vars variable value = Goes (at_index s (s.pc + 1)) (set_in vars variable s.tuple value)
 
   asks : (variable : Variable) (a : Reg) → act (store_of variable a) p g s some ≢ Stuck → on_kind (kind_in variable) (at s.registers a) (goes_on some variable) ≢ Stuck
-  asks (Local x) a runs = runs
-  asks (Scalar x) a runs = runs
   asks (Element x) a runs = keyed s.tuple (on_kind x.kind (at s.registers a) (goes_on some (Element x))) runs
+  asks _ a runs = runs
 
   same : (variable : Variable) (a : Reg) → act (store_of variable a) p g s some ≢ Stuck → act (store_of variable a) o f s vars ≡ on_kind (kind_in variable) (at s.registers a) (goes_on vars variable)
-  same (Local x) a runs = refl
-  same (Scalar x) a runs = refl
   same (Element x) a runs = key_is s.tuple (on_kind x.kind (at s.registers a) (goes_on some (Element x))) _ runs
+  same _ a runs = refl
 
   pub stored_there : (variable : Variable) (a : Reg) → act (store_of variable a) p g s some ≢ Stuck → at s.registers a ≢ None
   stored_there variable a runs none = asks variable a runs (ap (λ v. on_kind (kind_in variable) v (goes_on some variable)) none ∙ kind_none (kind_in variable) (goes_on some variable))

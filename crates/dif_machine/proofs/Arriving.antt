@@ -29,10 +29,9 @@ module _ (o : Object) (f : Firing) where
       (there.0, there.1, comes_after s next vars mid there.0 there.1 e there.2, there.3)
 
   reaches_by : (s : Frame) (vars : Variables) (end : End) (n : Next) → step_of o f s vars ≡ n → EndsBy n end → Reaches o f s vars end
-  reaches_by s vars end (Goes next after) e by = absurd by
   reaches_by s vars end (Ends value after) e by = subst (Reaches o f s vars) (sym by) (ends value after e)
   reaches_by s vars end (Faults after) e by = subst (Reaches o f s vars) (sym by) (faults after e)
-  reaches_by s vars end Stuck e by = absurd by
+  reaches_by s vars end _ e by = absurd by
 
   reaches_from : (s : Frame) (vars : Variables) (end : End) (t : Frame) (mid : Variables) → Comes o f s vars t mid → Reaches o f t mid end → Reaches o f s vars end
   reaches_from s vars end t mid stays reaches = reaches

@@ -40,9 +40,8 @@ tail_of (n ∷ ns) = ns
 one_variable : (m n : ℕ) (k l : Kind) → variable_number (record { slot = m; kind = k }) ≡ variable_number (record { slot = n; kind = l })
     → ◌≡◌ {A = Var} (record { slot = m; kind = k }) (record { slot = n; kind = l })
 one_variable m n kind.Number kind.Number e = let s : m ≡ n = omega arith in ap (λ i. record { slot = i; kind = kind.Number }) s
-one_variable m n kind.Number kind.Text e = absurd (omega arith)
-one_variable m n kind.Text kind.Number e = absurd (omega arith)
 one_variable m n kind.Text kind.Text e = let s : m ≡ n = omega arith in ap (λ i. record { slot = i; kind = kind.Text }) s
+one_variable m n _ _ e = absurd (omega arith)
 
 pub keys_same : (t u : ℕ) (x y : Var) (a b : List Word) → length a ≤ 8 → cell_key t x a ≡ cell_key u y b → (x ≡ y) × (a ≡ b)
 keys_same t u x y a b few e =
@@ -139,8 +138,7 @@ module _ (texts : List (List ℕ)) (old new : Entries) (thread : ℕ) (x : Var) 
 pub kind_word : (texts : List (List ℕ)) (k : Kind) (w : Word) → kind_of (value_of texts w) ≡ k → word_of k (bits_of w) ≡ w
 kind_word texts kind.Number (word.Int n) e = refl
 kind_word texts kind.Text (word.Text n) e = refl
-kind_word texts kind.Number (word.Text n) e = absurd cc
-kind_word texts kind.Text (word.Int n) e = absurd cc
+kind_word texts _ _ e = absurd cc
 
 pub as_it_is : (texts : List (List ℕ)) (k : Kind) (n : ℕ) → value_of texts (word_of k n) ≡ as_kind k (value_of texts (word_of k n))
 as_it_is texts kind.Number n = refl

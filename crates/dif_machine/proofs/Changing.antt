@@ -36,13 +36,7 @@ register_of (suc (suc (suc (suc (suc (suc (suc n))))))) = R7
 
 again : (r : Reg) → register_of (register_number r) ≡ r
 again R0 = refl
-again R1 = refl
-again R2 = refl
-again R3 = refl
-again R4 = refl
-again R5 = refl
-again R6 = refl
-again R7 = refl
+again _ = refl
 
 pub same_register : (d r : Reg) → register_number d ≡ register_number r → d ≡ r
 same_register d r e = sym (again d) ∙ ap register_of e ∙ again r
@@ -56,14 +50,12 @@ put_other xs d r x ne =
 
 module _ (s : Frame) (vars : Variables) (i : Instr) where
   number : (v : Option Value) (go : ℕ → Next) → ((x : ℕ) → Changes i s vars (go x)) → Changes i s vars (on_number v go)
-  number None go h = tt
   number (Some (Int n)) go h = h n
-  number (Some (Text bytes)) go h = tt
+  number _ go h = tt
 
   text : (v : Option Value) (go : List ℕ → Next) → ((x : List ℕ) → Changes i s vars (go x)) → Changes i s vars (on_text v go)
-  text None go h = tt
-  text (Some (Int n)) go h = tt
   text (Some (Text bytes)) go h = h bytes
+  text _ go h = tt
 
   some : {A : Type 0} (v : Option A) (go : A → Next) → ((x : A) → Changes i s vars (go x)) → Changes i s vars (on v go)
   some None go h = tt

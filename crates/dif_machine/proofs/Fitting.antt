@@ -78,11 +78,9 @@ fits_tuple s f o parts h is = record { registers = h.registers; compared = h.com
 -- ---- what an instruction asks for is there
 
 other_or_unset : (k : Kind) (known : Option Kind) → is_other k known ≡ false → is_unset known ≡ false → known ≡ Some k
-other_or_unset k None a b = cc
 other_or_unset Number (Some Number) a b = refl
 other_or_unset Text (Some Text) a b = refl
-other_or_unset Number (Some Text) a b = cc
-other_or_unset Text (Some Number) a b = cc
+other_or_unset _ _ a b = cc
 
 pub one : (k : Kind) (a : Reg) (s : Shape) → finds_other (One k a) s ≡ false → finds_unset (One k a) s ≡ false → at s.registers a ≡ Some k
 one k a s x y = other_or_unset k (at s.registers a) x y

@@ -136,9 +136,3 @@ module _ (old new : List (List ℕ)) (kept : Keeps old new) (lasting : ℕ) (cel
   -- as many as before
   pub grown : Grows m (seen_of new lasting cells known words numbers)
   grown = lasts lasting (omega arith) (omega (arith, s.inside, kept.long))
-
-pub number_within : (texts : List (List ℕ)) (n : ℕ) (bytes : List ℕ) → IsNumberOf texts n bytes → n < length texts
-number_within texts n bytes e = slice_get_within texts n bytes e
-
-pub number_text : (texts : List (List ℕ)) (n : ℕ) (bytes : List ℕ) → IsNumberOf texts n bytes → text_at texts n ≡ bytes
-number_text texts n bytes e = get_or_from_slice_get texts n bytes [] e

@@ -4,13 +4,13 @@ use Rattle.std.proofs.Common.{refl, sym, ap, subst, ◌∙◌, arith}
 use Rattle.std.proofs.Props.{props}
 use Rattle.std.proofs.lemmas.List.{map-set}
 use Rattle.std.proofs.lemmas.List.Elements.{All-set}
-use Rattle.std.proofs.lemmas.Option.{same_Some, slice_get-map}
+use Rattle.std.proofs.lemmas.Option.{get_or_from_slice_get, same_Some, slice_get-map, slice_get_within}
 use Rattle.numbered.specs.Texts.{Keeps, IsNumberOf, text_at}
 use Rattle.dif_machine.specs.Vocabulary.{Firing, Int, Text}
 use Rattle.dif_machine.specs.Machine.{Knows, found_of, knows_nothing, texts_of}
 use Rattle.dif_machine.specs.Sources.{built_ins}
 use Rattle.dif_machine.specs.Steps.Found.{AreFound}
-use Rattle.dif_machine.proofs.Holding.{found_kept, number_text, number_within, numbers_kept}
+use Rattle.dif_machine.proofs.Holding.{found_kept, numbers_kept}
 
 text_mapped : (texts : List (List ℕ)) (n : ℕ) → n < length texts → slice_index_or (map Text texts) n (Int 0) ≡ Text (text_at texts n)
 text_mapped [] n h = absurd (omega (arith, h))
@@ -39,8 +39,8 @@ module _ (f : Firing) (old new : List (List ℕ)) (kept : Keeps old new) (number
   pub found_more : (k n : ℕ) (bytes : List ℕ) → text_at (texts_of f) k ≡ bytes → IsNumberOf new n bytes → AreFound f new (slice_set numbers k (Some n))
   found_more k n bytes is number = record {
     known = subst (Knows f) (sym (map-set (option_map (text_at new)) numbers k (Some n)))
-        (one_more (λ k b. text_at (texts_of f) k ≡ b) (found_of new numbers) k (text_at new n) found_still.known (is ∙ sym (number_text new n bytes number)));
-    numbers = All-set (λ found. IfSome found (λ n. n < length new)) numbers k _ (number_within new n bytes number) found_still.numbers;
+        (one_more (λ k b. text_at (texts_of f) k ≡ b) (found_of new numbers) k (text_at new n) found_still.known (is ∙ sym (get_or_from_slice_get new n bytes [] number)));
+    numbers = All-set (λ found. IfSome found (λ n. n < length new)) numbers k _ (slice_get_within new n bytes number) found_still.numbers;
   }
 
 pub known_there : (f : Firing) (texts : List (List ℕ)) (numbers : List (Option ℕ)) → Knows f (found_of texts numbers) → (k n : ℕ) → slice_get numbers k ≡ Some (Some n) → text_at (texts_of f) k ≡ text_at texts n
@@ -50,12 +50,8 @@ known_there f texts numbers known k n there =
 -- ---- for who keeps it in a ghost field
 
 none_there : (k : ℕ) (bytes : List ℕ) → slice_get knows_nothing k ≡ Some (Some bytes) → ⊥
-none_there zero bytes e = cc
-none_there (suc zero) bytes e = cc
-none_there (suc (suc zero)) bytes e = cc
-none_there (suc (suc (suc zero))) bytes e = cc
-none_there (suc (suc (suc (suc zero)))) bytes e = cc
 none_there (suc (suc (suc (suc (suc k))))) bytes e = cc
+none_there _ bytes e = cc
 
 pub nothing_known : (f : Firing) → Knows f knows_nothing
 nothing_known f k bytes e = absurd (none_there k bytes e)

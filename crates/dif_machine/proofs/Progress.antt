@@ -17,7 +17,7 @@ use Rattle.d_values.specs.Stores.{kind_of, with_local, with_own}
 use Rattle.d_values.specs.declared.key.KeyPart.TheVariants as part
 use Rattle.d_values.specs.declared.value.Kind.TheVariants.{Number, Text}
 use Rattle.d_values.specs.declared.value.Value.TheVariants as va
-use Rattle.dif_validate.specs.declared.register.Reg.TheVariants.{R0, R1, R2, R3, R4, R5, R6, R7}
+use Rattle.dif_validate.specs.declared.register.Reg.TheVariants.{R0}
 use Rattle.dif_validate.specs.declared.shape.Shape.{Shape}
 use Rattle.dif_validate.specs.Asks.{takes_tuple, is_tuple_of, is_some_tuple}
 use Rattle.dif_validate.specs.Faults.{misses_tuple}
@@ -83,26 +83,11 @@ called function parts ks e h = by function parts (subst (λ l. is_tuple_of funct
     by : (function : Function) (parts : List KeyPart) → is_tuple_of function (kinds_of parts) ≡ true → (v : Value) × (call_of function parts ≡ Some v) × (kind_of v ≡ kind_of_function function)
     by Strlen (part.Name a ∷ []) h = (_, refl, refl)
     by Strjoin (part.Name a ∷ part.Name b ∷ []) h = (_, refl, refl)
-    by Strlen [] h = cc
-    by Strlen (part.Number n ∷ ps) h = cc
-    by Strlen (part.Name a ∷ p ∷ ps) h = cc
-    by Strjoin [] h = cc
-    by Strjoin (part.Number n ∷ ps) h = cc
-    by Strjoin (part.Name a ∷ []) h = cc
-    by Strjoin (part.Name a ∷ part.Number n ∷ ps) h = cc
-    by Strjoin (part.Name a ∷ part.Name b ∷ p ∷ ps) h = cc
+    by _ _ h = cc
 
 built_in_kind : (f : Firing) (v : ℕ) (x : Value) (k : Kind) → built_in_of f v ≡ Some x → Some (kind_of_built_in v) ≡ Some k → kind_of x ≡ k
-built_in_kind f zero x k is h = cc
-built_in_kind f (suc zero) x k is h = cc
-built_in_kind f (suc (suc zero)) x k is h = cc
-built_in_kind f (suc (suc (suc zero))) x k is h = cc
-built_in_kind f (suc (suc (suc (suc zero)))) x k is h = cc
-built_in_kind f (suc (suc (suc (suc (suc zero))))) x k is h = cc
-built_in_kind f (suc (suc (suc (suc (suc (suc zero)))))) x k is h = cc
-built_in_kind f (suc (suc (suc (suc (suc (suc (suc zero))))))) x k is h = cc
-built_in_kind f (suc (suc (suc (suc (suc (suc (suc (suc zero)))))))) x k is h = cc
 built_in_kind f (suc (suc (suc (suc (suc (suc (suc (suc (suc n))))))))) x k is h = cc
+built_in_kind f _ x k is h = cc
 
 as_kind_is : (k : Kind) (v : Value) → kind_of (as_kind k v) ≡ k
 as_kind_is Number v = refl
@@ -263,13 +248,7 @@ progress o valid f s vars r =
 
 start_registers : (r : Reg) (k : Kind) → at first_shape.registers r ≡ Some k → Holds (at frames.start.registers r) k
 start_registers R0 k e = record { value = va.Int 0; is = refl; kind = cc }
-start_registers R1 k e = cc
-start_registers R2 k e = cc
-start_registers R3 k e = cc
-start_registers R4 k e = cc
-start_registers R5 k e = cc
-start_registers R6 k e = cc
-start_registers R7 k e = cc
+start_registers _ k e = cc
 
 pub start_reached : (o : Object) → IsValid o → Reached o frames.start
 start_reached o valid = record {

@@ -1,16 +1,17 @@
 use Rattle.std.specs.Prelude.{◌≤◌, [], length}
 use Rattle.std.proofs.Common.{arith, rules, sym, take, ◌∙◌}
 use Rattle.std.proofs.lemmas.List.Elements.{All-cons, All-head, All-nil}
+use Rattle.std.proofs.lemmas.Option.{get_or_from_slice_get, slice_get_within}
 use Rattle.numbered.specs.declared.word.Word.TheVariants.{Text}
 use Rattle.dif_machine.specs.Machine.{IsWithin}
 use Rattle.dif_machine.proofs.Knowing.{found_more, found_still}
-use Rattle.dif_machine.proofs.Holding.{first_kept, number_still, number_text, number_within}
+use Rattle.dif_machine.proofs.Holding.{first_kept, number_still}
 use Rattle.dif_machine.proofs.built_in.find.Goals as goal
 
 pub lasting_with-requires-clause-within : goal.lasting_with-requires-clause-within
 lasting_with-requires-clause-within c =
     let P = IsWithin c.number.new.self in
-    All-cons P (Text c.in_ok-number.number) [] (number_within c.number.new.self _ _ c.in_ok-number.ensures.number) (All-nil P)
+    All-cons P (Text c.in_ok-number.number) [] (slice_get_within c.number.new.self _ _ c.in_ok-number.ensures.number) (All-nil P)
 
 pub returns-in_err-number : goal.returns-in_err-number
 returns-in_err-number c =
@@ -46,6 +47,6 @@ returns c =
           found = found_more c.args.firing.now _ _ kept c.args.numbers.now r.found c.args.index _ c.text.result.now (sym c.text.ensures) (number_still new c.lasting_with.result c.in_ok-number.number c.text.result.now number inside);
         };
       };
-      number = sym c.text.ensures ∙ sym (number_text new _ _ number);
-      within = number_within new _ _ number;
+      number = sym c.text.ensures ∙ sym (get_or_from_slice_get new _ _ [] number);
+      within = slice_get_within new _ _ number;
     }
