@@ -14,7 +14,7 @@ use Rattle.dif_machine.specs.Semantics.{Next, Ends, Goes, Stuck, on, on_kind, on
 use Rattle.dif_machine.specs.Semantics.{puts, pushes, act}
 use Rattle.dif_machine.specs.Steps.Instructions.{held_in, kind_in, load_of, set_in, store_of}
 use Rattle.dif_machine.specs.declared.memory.Variable.{Variable}
-use Rattle.dif_machine.specs.declared.memory.Variable.TheVariants.{Local, Scalar, Element}
+use Rattle.dif_machine.specs.declared.memory.Variable.TheVariants.{Element}
 
 kind_none : (k : Kind) (go : Value → Next) → on_kind k None go ≡ Stuck
 kind_none NumberKind go = refl

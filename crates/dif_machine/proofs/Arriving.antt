@@ -5,7 +5,7 @@ use Rattle.dif_machine.specs.Vocabulary.{Firing, MachineFault, Memory, Object, V
 use Rattle.dif_machine.specs.Frames.{Frame, start}
 use Rattle.dif_machine.specs.Runs.{End, Returns, Divides, Reaches, ends, faults, goes, Comes, stays}
 use Rattle.dif_machine.specs.Runs.{steps_on, EndsBy, RunEnds, Runs}
-use Rattle.dif_machine.specs.Semantics.{Next, Goes, Ends, Faults, Stuck, step_of}
+use Rattle.dif_machine.specs.Semantics.{Next, Goes, Ends, Faults, step_of}
 use Rattle.dif_machine.proofs.Changing.{end_keeps}
 
 module _ (o : Object) (f : Firing) where

@@ -28,14 +28,10 @@ use Rattle.std.specs.Cmp.Lexicographic.{bytes_decides}
 use Rattle.dif_machine.specs.Vocabulary.{cast_signed, cast_unsigned, w64, Kind, KeyPart, Number, Name, Var}
 use Rattle.dif_machine.specs.Machine.{IsWithin, key_in, value_of}
 use Rattle.numbered.specs.Shapes.{shape_of}
-use Rattle.numbered.proofs.Shaped.{digits_same, shape_below}
+use Rattle.numbered.proofs.Shaped.{digits_same, shape_below, tail_of}
 use Rattle.dif_machine.specs.Cells.{words_beside, cell_key, cell_of, is_of_word, word_of_part, words_of, own_in, IsTableOver}
 
 -- ---- keys of cells tell variables and words apart
-
-abbrev tail_of : List ℕ → List ℕ
-tail_of [] = []
-tail_of (n ∷ ns) = ns
 
 one_variable : (m n : ℕ) (k l : Kind) → variable_number (record { slot = m; kind = k }) ≡ variable_number (record { slot = n; kind = l })
     → ◌≡◌ {A = Var} (record { slot = m; kind = k }) (record { slot = n; kind = l })

@@ -1,12 +1,12 @@
 -- Runs end, each in one way.
 use Rattle.std.specs.Prelude.{Some, ◌≡◌, ◌≤◌, ◌<◌, ℕ, zero, suc, ◌+◌, length}
-use Rattle.std.proofs.Common.{refl, sym, ◌∙◌, subst, arith}
+use Rattle.std.proofs.Common.{refl, sym, subst, arith}
 use Rattle.dif_machine.specs.Vocabulary.{kind_of, Value, return_kind, Firing, Object, IsValid}
 use Rattle.dif_machine.specs.Vocabulary.{Variables}
 use Rattle.dif_machine.specs.Frames.{Frame}
 use Rattle.dif_machine.specs.Frames as frames
 use Rattle.dif_machine.specs.Runs.{End, Returns, Divides, Reaches, ends, faults, goes, steps}
-use Rattle.dif_machine.specs.Runs.{IsOver, Runs}
+use Rattle.dif_machine.specs.Runs.{EndsBy, IsOver, Runs}
 use Rattle.dif_machine.specs.Semantics.{Next, Goes, Ends, Faults, Stuck, step_of}
 use Rattle.dif_machine.proofs.Progress.{Reached, Onward, progress, start_reached}
 
@@ -35,17 +35,17 @@ module _ (o : Object) (valid : IsValid o) (f : Firing) where
   pub is_kinded : (vars after : Variables) (value : Value) → Runs o f vars (Returns value after) → return_kind o ≡ Some (kind_of value)
   is_kinded vars after value run = returns_kind frames.start vars after value (start_reached o valid) run
 
+-- what a run does after its next step
+abbrev After : Object → Firing → End → Next → Type 0
+After o f end (Goes next after) = Reaches o f next after end
+After o f end n = EndsBy n end
+
+after : (o : Object) (f : Firing) (s : Frame) (vars : Variables) (end : End) → Reaches o f s vars end → After o f end (step_of o f s vars)
+after o f s vars end (ends v w e) = subst (After o f end) (sym e) refl
+after o f s vars end (faults w e) = subst (After o f end) (sym e) refl
+after o f s vars end (goes n w e r) = subst (After o f end) (sym e) r
+
 pub one_end : (o : Object) (f : Firing) (s : Frame) (vars : Variables) (a b : End) → Reaches o f s vars a → Reaches o f s vars b → a ≡ b
-one_end o f s vars a b (ends v w e) (ends v' w' e') = let x = sym e ∙ e' in cc
-one_end o f s vars a b (ends v w e) (faults w' e') = let x = sym e ∙ e' in cc
-one_end o f s vars a b (ends v w e) (goes n w' e' r) = let x = sym e ∙ e' in cc
-one_end o f s vars a b (faults w e) (ends v' w' e') = let x = sym e ∙ e' in cc
-one_end o f s vars a b (faults w e) (faults w' e') = let x = sym e ∙ e' in cc
-one_end o f s vars a b (faults w e) (goes n w' e' r) = let x = sym e ∙ e' in cc
-one_end o f s vars a b (goes n w e r) (ends v' w' e') = let x = sym e ∙ e' in cc
-one_end o f s vars a b (goes n w e r) (faults w' e') = let x = sym e ∙ e' in cc
-one_end o f s vars a b (goes n w e r) (goes n' w' e' r') =
-    let x = sym e ∙ e' in
-    let same : n ≡ n' = cc in
-    let also : w ≡ w' = cc in
-    one_end o f n w a b r (subst (λ m. Reaches o f m w b) (sym same) (subst (λ v. Reaches o f n' v b) (sym also) r'))
+one_end o f s vars a b (ends v w e) r' = sym (subst (After o f b) e (after o f s vars b r'))
+one_end o f s vars a b (faults w e) r' = sym (subst (After o f b) e (after o f s vars b r'))
+one_end o f s vars a b (goes n w e r) r' = one_end o f n w a b r (subst (After o f b) e (after o f s vars b r'))

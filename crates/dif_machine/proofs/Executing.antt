@@ -68,10 +68,6 @@ abbrev pub IsStable : {M : Type 0} → (M → List (List ℕ) → Variables) →
 IsStable {M} holds is_over = (m : M) (old new : List (List ℕ)) → is_over m old → Keeps old new → is_over m new × (holds m new ≡ holds m old)
 
 module _ {M : Type 0} (holds : M → List (List ℕ) → Variables) (is_over : M → List (List ℕ) → Type 0) (beside : M → List ℕ → ℕ) (o : Object) (f : Firing) (memory : M) (m : Seen) where
-  -- the instruction is the one that was read
-  pub on_memory : (next : ℕ) (read i : Instr) → read ≡ i → (result : Result Onward MachineFault) (left : M) (n : Seen) → ExecutesOn holds is_over beside i next o f memory m result left n → ExecutesOn holds is_over beside read next o f memory m result left n
-  on_memory next read i is result left n e = subst (λ i. ExecutesOn holds is_over beside i next o f memory m result left n) (sym is) e
-
   -- memory wasn't asked
   pub executed : IsStable holds is_over → (next : ℕ) (i : Instr) (result : Result Onward MachineFault) (n : Seen) → IsRunning is_over memory m → ExecutesFor i next o f m result n → ExecutesOn holds is_over beside i next o f memory m result memory n
   executed stable next i result n r e index is_next =

@@ -101,9 +101,6 @@ module _ (old new : List (List ℕ)) (kept : Keeps old new) where
   map_kept P f g same [] all = refl
   map_kept P f g same (x ∷ xs) all = ap (λ y. y ∷ map f xs) (same x (all 0 x (omega arith))) ∙ ap (λ ys. g x ∷ ys) (map_kept P f g same xs (λ k d h. all (suc k) d (omega (arith, h))))
 
-  contents_kept : (cells : List Content) → All (IsContentWithin old) cells → contents new cells ≡ contents old cells
-  contents_kept cells all = map_kept (IsContentWithin old) (content_of new) (content_of old) content_kept cells all
-
   found_same : (n : Option ℕ) → IfSome n (λ n. n < length old) → option_map (text_at new) n ≡ option_map (text_at old) n
   found_same None h = refl
   found_same (Some n) h = ap Some (kept.same n h)
@@ -117,7 +114,7 @@ module _ (old new : List (List ℕ)) (kept : Keeps old new) where
   pub frame_kept : (lasting : ℕ) (cells : List Content) (known : Option Comparison) (words : List Word) (numbers : List (Option ℕ)) → IsSound old lasting cells words numbers
       → ◌≡◌ {A = Frame} (record { pc = 0; registers = contents new cells; comparison = known; tuple = key_in new words }) (record { pc = 0; registers = contents old cells; comparison = known; tuple = key_in old words })
   frame_kept lasting cells known words numbers s =
-      let registers = contents_kept cells s.registers in
+      let registers = map_kept (IsContentWithin old) (content_of new) (content_of old) content_kept cells s.registers in
       let tuple = key_kept words s.tuple in
       λ i. record { pc = 0; registers = registers i; comparison = known; tuple = tuple i }
 

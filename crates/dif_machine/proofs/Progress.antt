@@ -34,7 +34,7 @@ use Rattle.dif_machine.specs.Kinds.{kind_of_part, kinds_of}
 use Rattle.dif_machine.specs.Known.{Holds, FitsShape}
 use Rattle.dif_machine.specs.Operators.{result_of, comparison_of, text_comparison_of, holds}
 use Rattle.dif_machine.specs.Operators.{call_of}
-use Rattle.dif_machine.specs.Runs.{End, Reaches, ends, faults, goes, Comes, stays, steps_on}
+use Rattle.dif_machine.specs.Runs.{End, Reaches, faults, goes, Comes, stays, steps_on}
 use Rattle.dif_machine.specs.Runs.{RunEnds}
 use Rattle.dif_machine.specs.Sources.{built_in_of, built_ins, local_in, own_value}
 use Rattle.dif_machine.specs.Semantics.{Next, Goes, Ends, Faults, Stuck, on, on_key, puts_result}
@@ -154,10 +154,6 @@ module _ (o : Object) (valid : IsValid o) (f : Firing) (s : Frame) (vars : Varia
   compared_good : (i : Instr) (at_pc : slice_get o.code s.pc ≡ Some i) (fine : IsFaultless o s.pc i t) (known : _) → falls i ≡ true → leaves i t ≡ record { registers = t.registers; compared = true; tuple = t.tuple } → Good (Goes (frames.with_comparison s known) vars)
   compared_good i at_pc fine known on l = fall i at_pc fine _ vars refl on (subst (λ u. FitsShape u (frames.with_comparison s known)) (sym l) (fits_comparison t s known fits))
 
-  -- a register of the kind
-  has_one : (k : Kind) (a : Reg) → at t.registers a ≡ Some k → Holds (at s.registers a) k
-  has_one k a e = fits.registers a k e
-
   some_tuple : (ks : List Kind) → is_some_tuple ks ≡ true → ks ≢ []
   some_tuple [] h e = cc
   some_tuple (k ∷ ks) h e = cc
@@ -173,21 +169,21 @@ module _ (o : Object) (valid : IsValid o) (f : Firing) (s : Frame) (vars : Varia
   act_good : (i : Instr) (at_pc : slice_get o.code s.pc ≡ Some i) (fine : IsFaultless o s.pc i t) → Good (act i o f s vars)
   act_good (Alu op a b d) p fine =
       let r = two Number a b t fine.fine.kinds fine.fine.set in
-      number_there Good (at s.registers a) _ (has_one Number a r.0) (λ x. number_there Good (at s.registers b) _ (has_one Number b r.1) (λ y. result_good (Alu op a b d) p fine d (result_of op x y) refl refl))
+      number_there Good (at s.registers a) _ (fits.registers a Number r.0) (λ x. number_there Good (at s.registers b) _ (fits.registers b Number r.1) (λ y. result_good (Alu op a b d) p fine d (result_of op x y) refl refl))
   act_good (Not a d) p fine =
-      number_there Good (at s.registers a) _ (has_one Number a (one Number a t fine.fine.kinds fine.fine.set)) (λ x. value_good (Not a d) p fine d (Some Number) _ refl refl (λ j e. cc))
+      number_there Good (at s.registers a) _ (fits.registers a Number (one Number a t fine.fine.kinds fine.fine.set)) (λ x. value_good (Not a d) p fine d (Some Number) _ refl refl (λ j e. cc))
   act_good (Mov a d) p fine =
       let k = any a t fine.fine.set in
       let has = fits.registers a k.0 k.1 in
       on_there Good (at s.registers a) has.value _ has.is (value_good (Mov a d) p fine d (at t.registers a) has.value refl refl (λ j e. has.kind ∙ (let x : Some k.0 ≡ Some j = sym k.1 ∙ e in cc)))
   act_good (Cmp a b) p fine =
       let r = two Number a b t fine.fine.kinds fine.fine.set in
-      number_there Good (at s.registers a) _ (has_one Number a r.0) (λ x. number_there Good (at s.registers b) _ (has_one Number b r.1) (λ y. compared_good (Cmp a b) p fine (comparison_of x y) refl refl))
+      number_there Good (at s.registers a) _ (fits.registers a Number r.0) (λ x. number_there Good (at s.registers b) _ (fits.registers b Number r.1) (λ y. compared_good (Cmp a b) p fine (comparison_of x y) refl refl))
   act_good (Tst a) p fine =
-      number_there Good (at s.registers a) _ (has_one Number a (one Number a t fine.fine.kinds fine.fine.set)) (λ x. compared_good (Tst a) p fine (comparison_of x 0) refl refl)
+      number_there Good (at s.registers a) _ (fits.registers a Number (one Number a t fine.fine.kinds fine.fine.set)) (λ x. compared_good (Tst a) p fine (comparison_of x 0) refl refl)
   act_good (Scmp a b) p fine =
       let r = two Text a b t fine.fine.kinds fine.fine.set in
-      text_there Good (at s.registers a) _ (has_one Text a r.0) (λ x. text_there Good (at s.registers b) _ (has_one Text b r.1) (λ y. compared_good (Scmp a b) p fine (text_comparison_of x y) refl refl))
+      text_there Good (at s.registers a) _ (fits.registers a Text r.0) (λ x. text_there Good (at s.registers b) _ (fits.registers b Text r.1) (λ y. compared_good (Scmp a b) p fine (text_comparison_of x y) refl refl))
   act_good (Ba to) p fine = jump (Ba to) p fine to refl refl
   act_good (Branch condition to) p fine =
       let c = comparison_there s.comparison (fits.compared (not-false t.compared fine.fine.compared)) in
@@ -203,21 +199,21 @@ module _ (o : Object) (valid : IsValid o) (f : Firing) (s : Frame) (vars : Varia
       on_there Good (built_in_of f v) x.0 _ x.1 (value_good (Ldgs v d) p fine d (Some (kind_of_built_in v)) x.0 refl refl (λ j e. built_in_kind f v x.0 j x.1 e))
   act_good (Ldga (suc v) a d) p fine = absurd (omega (arith, ltb-false 0 (suc v) fine.variable))
   act_good (Ldga zero a d) p fine =
-      number_there Good (at s.registers a) _ (has_one Number a (one Number a t fine.fine.kinds fine.fine.set)) (λ n. value_good (Ldga 0 a d) p fine d (Some Number) _ refl refl (λ j e. cc))
+      number_there Good (at s.registers a) _ (fits.registers a Number (one Number a t fine.fine.kinds fine.fine.set)) (λ n. value_good (Ldga 0 a d) p fine d (Some Number) _ refl refl (λ j e. cc))
   act_good (Ldts x d) p fine = value_good (Ldts x d) p fine d (Some x.kind) (own_value vars x []) refl refl (is_kind (own_value vars x []) x.kind (as_kind_is x.kind (vars.own x [])))
   act_good (Stts x a) p fine =
-      kind_there Good x.kind (at s.registers a) _ (has_one x.kind a (one x.kind a t fine.fine.kinds fine.fine.set))
+      kind_there Good x.kind (at s.registers a) _ (fits.registers a x.kind (one x.kind a t fine.fine.kinds fine.fine.set))
       (λ v e. fall (Stts x a) p fine _ (record { locals = vars.locals; own = with_own vars.own x [] v }) refl refl (fits_index t s _ fits))
   act_good (Ldls x d) p fine = value_good (Ldls x d) p fine d (Some x.kind) (local_in vars x) refl refl (is_kind (local_in vars x) x.kind (as_kind_is x.kind (vars.locals x)))
   act_good (Stls x a) p fine =
-      kind_there Good x.kind (at s.registers a) _ (has_one x.kind a (one x.kind a t fine.fine.kinds fine.fine.set))
+      kind_there Good x.kind (at s.registers a) _ (fits.registers a x.kind (one x.kind a t fine.fine.kinds fine.fine.set))
       (λ v e. fall (Stls x a) p fine _ (record { locals = with_local vars.locals x v; own = vars.own }) refl refl (fits_index t s _ fits))
   act_good (Pushtr a) p fine =
       let ks = tuple_known (Pushtr a) t.tuple fine.fine.tuple in
-      text_there Good (at s.registers a) _ (has_one Text a (one Text a t fine.fine.kinds fine.fine.set)) (λ bytes. push_good (Pushtr a) p fine (part.Name bytes) ks.0 refl refl ks.1 ks.2)
+      text_there Good (at s.registers a) _ (fits.registers a Text (one Text a t fine.fine.kinds fine.fine.set)) (λ bytes. push_good (Pushtr a) p fine (part.Name bytes) ks.0 refl refl ks.1 ks.2)
   act_good (Pushtv a) p fine =
       let ks = tuple_known (Pushtv a) t.tuple fine.fine.tuple in
-      number_there Good (at s.registers a) _ (has_one Number a (one Number a t fine.fine.kinds fine.fine.set)) (λ n. push_good (Pushtv a) p fine (part.Number (cast_signed w64 n)) ks.0 refl refl ks.1 ks.2)
+      number_there Good (at s.registers a) _ (fits.registers a Number (one Number a t fine.fine.kinds fine.fine.set)) (λ n. push_good (Pushtv a) p fine (part.Number (cast_signed w64 n)) ks.0 refl refl ks.1 ks.2)
   act_good Flushts p fine = fall Flushts p fine _ vars refl refl (fits_tuple t s (Some []) [] fits (λ ks e. cc))
   act_good (Ldtaa x d) p fine =
       let ks = tuple_known (Ldtaa x d) t.tuple fine.fine.tuple in
@@ -225,7 +221,7 @@ module _ (o : Object) (valid : IsValid o) (f : Firing) (s : Frame) (vars : Varia
   act_good (Sttaa x a) p fine =
       let ks = tuple_known (Sttaa x a) t.tuple fine.fine.tuple in
       key_good (Sttaa x a) p fine _ ks.0 ks.1 (some_tuple ks.0 ks.2)
-      (kind_there Good x.kind (at s.registers a) _ (has_one x.kind a (one x.kind a t fine.fine.kinds fine.fine.set))
+      (kind_there Good x.kind (at s.registers a) _ (fits.registers a x.kind (one x.kind a t fine.fine.kinds fine.fine.set))
       (λ v e. fall (Sttaa x a) p fine _ (record { locals = vars.locals; own = with_own vars.own x s.tuple v }) refl refl (fits_index t s _ fits)))
   act_good (Call function d) p fine =
       let ks = tuple_known (Call function d) t.tuple fine.fine.tuple in
@@ -278,9 +274,6 @@ pub follows_on : (o : Object) (f : Firing) (first : Variables) (s next : Frame) 
 follows_on o f first s next vars after h e =
     let on = subst (Onward o s.pc) e (onward o f first s vars h) in
     (on.0, record { valid = h.valid; reached = on.1; comes = steps_on next after h.comes e; so_far = λ end r. h.so_far end (goes next after e r) })
-
-pub ends_well : (o : Object) (f : Firing) (first : Variables) (s : Frame) (vars after : Variables) (value : Value) → Follows o f first s vars → step_of o f s vars ≡ Ends value after → RunEnds o f first (Ok value) after
-ends_well o f first s vars after value h e = h.so_far _ (ends value after e)
 
 pub ends_badly : (o : Object) (f : Firing) (first : Variables) (s next : Frame) (vars after : Variables) (fault : MachineFault) → Follows o f first s vars → Stepped vars (step_of o f s vars) (Err fault) next after → RunEnds o f first (Err fault) after
 ends_badly o f first s next vars after DivideByZero h e = h.so_far _ (faults after e)

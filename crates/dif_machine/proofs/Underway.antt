@@ -8,7 +8,7 @@ use Rattle.dif_machine.specs.Vocabulary.{Firing, Instr, IsValid, MachineFault, O
 use Rattle.dif_machine.specs.Vocabulary.{Value, Variables}
 use Rattle.dif_machine.specs.Frames.{at_index}
 use Rattle.dif_machine.specs.Machine.{IsWithin, Knows, Seen, word_result}
-use Rattle.dif_machine.specs.Runs.{RunEnds}
+use Rattle.dif_machine.specs.Runs.{RunEnds, ends}
 use Rattle.dif_machine.specs.Semantics.{Stuck, act, on, step_of}
 use Rattle.dif_machine.specs.Memories.{RunsOver}
 use Rattle.dif_machine.specs.Steps.Instructions.{ExecutesOn, LeadsTo}
@@ -17,7 +17,7 @@ use Rattle.dif_machine.specs.declared.onward.Onward.{Onward}
 use Rattle.dif_machine.specs.declared.onward.Onward.TheVariants as onward
 use Rattle.dif_machine.proofs.Executing.{IsStable}
 use Rattle.dif_machine.proofs.Holding.{keeps_on, keeps_refl}
-use Rattle.dif_machine.proofs.Progress.{Follows, follows_start, follows_on, never_stuck, ends_well}
+use Rattle.dif_machine.proofs.Progress.{Follows, follows_start, follows_on, never_stuck}
 use Rattle.dif_machine.proofs.Progress.{ends_badly}
 
 -- it follows the run of the definition, texts that last keep their numbers, those that were found
@@ -63,7 +63,7 @@ module _ {M : Type 0} (holds : M → List (List ℕ) → Variables) (is_over : M
       returned a value e is =
           let led = stepped (Ok (onward.Ends a)) e in
           subst (λ v. RunEnds o f (holds first m.texts) (Ok v) (holds left k.texts)) (same_Some _ _ (sym led.stepped.1 ∙ is))
-          (ends_well o f (holds first m.texts) (at_index n.frame index) (holds memory n.texts) (holds left k.texts) led.stepped.0 u.follows led.stepped.2)
+          (u.follows.so_far _ (ends led.stepped.0 (holds left k.texts) led.stepped.2))
 
       pub failed : (fault : MachineFault) → ExecutesOn holds is_over beside i (index + 1) o f memory n (Err fault) left k → RunEnds o f (holds first m.texts) (Err fault) (holds left k.texts)
       failed fault e =
@@ -72,12 +72,12 @@ module _ {M : Type 0} (holds : M → List (List ℕ) → Variables) (is_over : M
       -- the run has ended, and the texts that last are left alone
       pub rested : IsStable holds is_over → (result : Result Onward MachineFault) → ExecutesOn holds is_over beside i (index + 1) o f memory n result left k → (j : Seen) → Rests k j → (r : Result Word MachineFault)
           → RunEnds o f (holds first m.texts) (word_result j.texts r) (holds left k.texts) → IfOk r (IsWithin j.texts) → RunsOver holds is_over beside o f first m r left j
-      rested stable result e j rests r ends within =
+      rested stable result e j rests r ended within =
           let led = stepped result e in
           let over = (stable left k.lasting j.lasting led.over rests.more).0 in
           let same = (stable left j.lasting k.texts over rests.among).1 in
           record {
-            ends = subst (RunEnds o f (holds first m.texts) (word_result j.texts r)) (same ∙ ap (holds left) (sym rests.all)) ends;
+            ends = subst (RunEnds o f (holds first m.texts) (word_result j.texts r)) (same ∙ ap (holds left) (sym rests.all)) ended;
             within = within;
             kept = subst (Keeps m.texts) (sym rests.all) (keeps_on m.texts k.lasting j.lasting (keeps_on m.texts n.lasting k.lasting u.kept led.lasting.more) rests.more);
             ready = record { known = subst (Knows f) (sym rests.known) (led.known u.known); over = subst (is_over left) (sym rests.all) over };

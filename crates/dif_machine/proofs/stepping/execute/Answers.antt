@@ -8,7 +8,7 @@ use Rattle.dif_machine.specs.Steps.Instructions.{CanExecute, ExecutesFor, Execut
 use Rattle.dif_machine.specs.Vocabulary.{Firing, Flushts, Instr, Int, Ldga, MachineFault, Object, Reg, Text, Variables, object_of}
 use Rattle.dif_machine.specs.declared.onward.Onward.{Onward}
 use Rattle.dif_machine.proofs.Acting.{only_array, ret_there}
-use Rattle.dif_machine.proofs.Executing.{executed, goes, inside, on_memory, still_lasts}
+use Rattle.dif_machine.proofs.Executing.{executed, goes, inside, still_lasts}
 use Rattle.dif_machine.proofs.Holding.{keeps_refl}
 use Rattle.dif_machine.proofs.stepping.execute.Given.{Over}
 use Rattle.dif_machine.proofs.stepping.execute.Goals.{Start}
@@ -33,10 +33,11 @@ module _ (g : Over) (c : Start g) where
   can : (i : Instr) → c.args.instr.now ≡ i → CanExecute i c.args.next c.args.machine.now.frame
   can i is = (o, f, vars, c.requires.runs.0, c.requires.runs.1, runs i is)
 
+  -- the instruction is the one that was read
   variable_was : (i : Instr) → c.args.instr.now ≡ i → (result : Result Onward MachineFault) (left : g.row.M.Denot) (n : Seen)
       → ((o : Object) (f : Firing) → ExecutesOn g.M.Memory.holds g.M.Memory.is_over g.M.Memory.beside i c.args.next o f c.args.memory.now c.args.machine.now result left n)
       → ExecutesOn g.M.Memory.holds g.M.Memory.is_over g.M.Memory.beside c.args.instr.now c.args.next o f c.args.memory.now c.args.machine.now result left n
-  variable_was i is result left n e = on_memory g.M.Memory.holds g.M.Memory.is_over g.M.Memory.beside o f c.args.memory.now c.args.machine.now c.args.next c.args.instr.now i is result left n (e o f)
+  variable_was i is result left n e = subst (λ i. ExecutesOn g.M.Memory.holds g.M.Memory.is_over g.M.Memory.beside i c.args.next o f c.args.memory.now c.args.machine.now result left n) (sym is) (e o f)
 
   one_array : (v : ℕ) (a d : Reg) → c.args.instr.now ≡ Ldga v a d → c.args.instr.now ≡ Ldga 0 a d
   one_array v a d is = is ∙ ap (λ v. Ldga v a d) (only_array o f frame vars v a d (runs (Ldga v a d) is))
@@ -44,7 +45,7 @@ module _ (g : Over) (c : Start g) where
   was : (i : Instr) → c.args.instr.now ≡ i → (result : Result Onward MachineFault) (n : Seen) → ExecutesFor i c.args.next o f c.args.machine.now result n
       → ExecutesOn g.M.Memory.holds g.M.Memory.is_over g.M.Memory.beside c.args.instr.now c.args.next o f c.args.memory.now c.args.machine.now result c.args.memory.now n
   was i is result n e =
-      on_memory g.M.Memory.holds g.M.Memory.is_over g.M.Memory.beside o f c.args.memory.now c.args.machine.now c.args.next c.args.instr.now i is result c.args.memory.now n
+      subst (λ i. ExecutesOn g.M.Memory.holds g.M.Memory.is_over g.M.Memory.beside i c.args.next o f c.args.memory.now c.args.machine.now result c.args.memory.now n) (sym is)
       (executed g.M.Memory.holds g.M.Memory.is_over g.M.Memory.beside o f c.args.memory.now c.args.machine.now g.met.M.Memory.stays c.args.next i result n c.requires.running e)
 
 pub alu-requires : goal.alu-requires
