@@ -28,7 +28,7 @@ class Function:
     trait's arguments, and the cycle of calls that it is in, if any."""
 
     module: str
-    type: str
+    of_type: str
     trait: str
     arguments: str
     name: str
@@ -39,9 +39,9 @@ class Function:
         it. A method is in its type's module, and the arguments of a trait follow its name. How
         they are written there is known where they are one name."""
         owner, _, name = CLOSURE.sub(r"::\1", f"::{path}").rpartition("::")
-        if name != self.name or not self.type:
+        if name != self.name or not self.of_type:
             return name == self.name and owner.strip(":") == self.module
-        last, whole = owner.rpartition("::")[2], self.type + self.trait
+        last, whole = owner.rpartition("::")[2], self.of_type + self.trait
         if self.arguments and not self.arguments.isidentifier():
             return last.startswith(whole)
         return last == whole + self.arguments
@@ -49,21 +49,21 @@ class Function:
     def search_name(self):
         """Returns the name that the prover finds it by: that of its module, where its path isn't
         known to the end."""
-        owner = self.type + self.trait if self.type else self.module
+        owner = self.of_type + self.trait if self.of_type else self.module
         return self.module if self.arguments else "::".join(filter(None, [owner, self.name]))
 
     def is_like(self, other):
         """Returns whether what is said of one may be said of the other: they are the same, or
         methods of one name, which have one proof where their types contain each other."""
-        are_methods = self.type and other.type and self.name == other.name
-        return self == other or bool(are_methods and self.type != other.type)
+        are_methods = self.of_type and other.of_type and self.name == other.name
+        return self == other or bool(are_methods and self.of_type != other.of_type)
 
     def is_called_in(self, text):
         """Returns whether a text seems to call this function: a method is named after a dot or its
         type, and any other function after neither."""
         found = re.findall(rf"(?:(\w+)::|(\.))?\b{self.name}\(", text)
-        if self.type:
-            return any(dot or owner in (self.type, "Self") for owner, dot in found)
+        if self.of_type:
+            return any(dot or owner in (self.of_type, "Self") for owner, dot in found)
         return any(not dot and not owner[:1].isupper() for owner, dot in found)
 
 

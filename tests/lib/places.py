@@ -29,7 +29,7 @@ def changed_text(edit, text):
     found = [
         it
         for function, it in bodies.functions_in(text, edit["path"])
-        if edit["name"] in (function.name, f"{function.type}::{function.name}")
+        if edit["name"] in (function.name, f"{function.of_type}::{function.name}")
     ]
     if len(found) != 1 or found[0][0].count(edit["old"]) != 1:
         return None

@@ -21,14 +21,14 @@ class Bucket:
 class Average(NamedTuple):
     """The sum of the arguments, as a signed number of 64 bits, and how many they are."""
 
-    sum: int
+    total: int
     count: int
 
     @property
     def quotient(self):
         """The average, cut toward zero."""
-        size = abs(self.sum) // self.count
-        return size if self.sum >= 0 else -size
+        size = abs(self.total) // self.count
+        return size if self.total >= 0 else -size
 
 
 class Powers(NamedTuple):
@@ -110,7 +110,7 @@ def add(function, one, other):
     if function in ("min", "max"):
         return min(one, other) if function == "min" else max(one, other)
     if function == "avg":
-        return Average(wrap(one.sum + other.sum), one.count + other.count)
+        return Average(wrap(one.total + other.total), one.count + other.count)
     counts = dict(one)
     for place, count in other.items():
         counts[place] = counts.get(place, 0) + count

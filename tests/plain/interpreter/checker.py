@@ -51,7 +51,7 @@ class Variable:
     before it is known."""
 
     kinds: tuple
-    type: object = None
+    of_type: object = None
 
 
 class Aggregation(NamedTuple):
@@ -134,7 +134,7 @@ class Checker:
         if len(declaration.keys or []) > MAX_KEYS:
             refuse(KEYS, declaration)
         kinds = None if declaration.keys is None else kinds_of(declaration.keys)
-        self.variables[declaration.space, declaration.name] = Variable(kinds, declaration.type)
+        self.variables[declaration.space, declaration.name] = Variable(kinds, declaration.of_type)
 
     def predicate(self, predicate):
         if self.expression(predicate) is TEXT:
@@ -195,8 +195,8 @@ class Checker:
     def expression(self, expression):
         """The type of an expression, which from now on has it. Each kind has a method of its
         name."""
-        expression.type = getattr(self, type(expression).__name__.lower())(expression)
-        return expression.type
+        expression.of_type = getattr(self, type(expression).__name__.lower())(expression)
+        return expression.of_type
 
     def number(self, number):
         return constant_type(number.value, number.suffix)
@@ -216,11 +216,11 @@ class Checker:
             known = self.variables.get((place.space, place.name), Variable(None))
         else:
             known = Variable(None, BUILT_INS.get(place.name))
-        if known.type is None:
+        if known.of_type is None:
             refuse(UNDECLARED, place)
         if known.kinds != kinds:
             refuse(KEYS, place)
-        return known.type
+        return known.of_type
 
     def target(self, place):
         """What is known of the variable that is assigned. Its first target fixes whether it has
@@ -271,24 +271,24 @@ class Checker:
 
     def assignment(self, assignment):
         known = self.target(assignment.target)
-        if assignment.operator and known.type is None:
-            known.type = LONG
+        if assignment.operator and known.of_type is None:
+            known.of_type = LONG
         right = self.expression(assignment.right)
-        if known.type is None:
-            known.type = right
-        if (known.type is TEXT) != (right is TEXT) or (assignment.operator and right is TEXT):
+        if known.of_type is None:
+            known.of_type = right
+        if (known.of_type is TEXT) != (right is TEXT) or (assignment.operator and right is TEXT):
             refuse(MISMATCH, assignment)
-        assignment.target.type = known.type
-        return known.type
+        assignment.target.of_type = known.of_type
+        return known.of_type
 
     def step(self, step):
         known = self.target(step.target)
-        if known.type is None:
-            known.type = LONG
-        if known.type is TEXT:
+        if known.of_type is None:
+            known.of_type = LONG
+        if known.of_type is TEXT:
             refuse(MISMATCH, step)
-        step.target.type = known.type
-        return known.type
+        step.target.of_type = known.of_type
+        return known.of_type
 
     def call(self, call):
         types = [self.expression(argument) for argument in call.arguments]

@@ -68,7 +68,7 @@ def entries(place, name, aggregation, arguments):
 
 
 def end(shown):
-    exits = b'{"firing":%d,"status":%d}' % shown.exit if shown.exit else b"null"
+    exits = b'{"firing":%d,"status":%d}' % shown.exited if shown.exited else b"null"
     return b'{"kind":"end","exit":%s,"firings":%d}\n' % (exits, shown.firings)
 
 

@@ -30,12 +30,12 @@ class Shown:
 
     texts: list = field(default_factory=list)
     arguments: dict = field(default_factory=dict)
-    exit: tuple = None
+    exited: tuple = None
     firings: int = 0
 
     @property
     def status(self):
-        return self.exit[1] if self.exit else 0
+        return self.exited[1] if self.exited else 0
 
 
 def run(script, firings):
@@ -43,7 +43,7 @@ def run(script, firings):
     left."""
     shown, threads = Shown(), {}
     for firing in firings:
-        if shown.exit is None or firing is firings[-1]:
+        if shown.exited is None or firing is firings[-1]:
             fire(script, firing, threads.setdefault(firing.thread, {}), shown)
     return shown
 
@@ -118,22 +118,22 @@ def contribute(evaluation, statement, shown):
 
 def perform_trace(evaluation, call, texts, _):
     value = evaluation.value(call.arguments[0])
-    texts.append((value if call.arguments[0].type is TEXT else b"%d" % value) + b"\n")
+    texts.append((value if call.arguments[0].of_type is TEXT else b"%d" % value) + b"\n")
 
 
 def perform_printf(evaluation, call, texts, _):
     first, *rest = call.arguments
     texts.append(
         formats.write_format(
-            first.content, [(evaluation.value(argument), argument.type) for argument in rest]
+            first.content, [(evaluation.value(argument), argument.of_type) for argument in rest]
         )
     )
 
 
 def perform_exit(evaluation, call, _, shown):
     status = evaluation.value(call.arguments[0]) % 256
-    if shown.exit is None:
-        shown.exit = evaluation.firing.number, status
+    if shown.exited is None:
+        shown.exited = evaluation.firing.number, status
 
 
 ACTIONS = {"trace": perform_trace, "printf": perform_printf, "exit": perform_exit}
@@ -166,7 +166,7 @@ class Evaluation:
                 return self.binary(expression)
             case tree.Choice():
                 chosen = expression.yes if self.value(expression.condition) else expression.no
-                return convert(self.value(chosen), expression.type)
+                return convert(self.value(chosen), expression.of_type)
             case tree.Assignment():
                 return self.assign(expression)
             case tree.Step():
@@ -177,21 +177,22 @@ class Evaluation:
     def key(self, keys):
         """The values of keys, integers as signed numbers of 64 bits."""
         return tuple(
-            self.value(key) if key.type is TEXT else LONG.wrap(self.value(key))
+            self.value(key) if key.of_type is TEXT else LONG.wrap(self.value(key))
             for key in keys or []
         )
 
     def get(self, place, key):
-        return self.variables[place.space].get((place.name, key), b"" if place.type is TEXT else 0)
+        unset = b"" if place.of_type is TEXT else 0
+        return self.variables[place.space].get((place.name, key), unset)
 
     def store(self, place, key, value):
-        value = convert(value, place.type)
+        value = convert(value, place.of_type)
         self.variables[place.space][place.name, key] = value
         return value
 
     def unary(self, unary):
         value = self.value(unary.operand)
-        return unary.type.wrap(
+        return unary.of_type.wrap(
             {"!": int(not value), "~": ~value, "-": -value, "+": value}[unary.operator]
         )
 
@@ -205,7 +206,7 @@ class Evaluation:
         if binary.operator == "^^":
             return int((left != 0) != (right != 0))
         operation = compare if binary.operator in COMPARISONS else operate
-        return operation(binary.operator, left, binary.left.type, right, binary.right.type)
+        return operation(binary.operator, left, binary.left.of_type, right, binary.right.of_type)
 
     def assign(self, assignment):
         target = assignment.target
@@ -217,7 +218,7 @@ class Evaluation:
         return self.store(
             target,
             key,
-            operate(assignment.operator, old, target.type, right, assignment.right.type),
+            operate(assignment.operator, old, target.of_type, right, assignment.right.of_type),
         )
 
     def step(self, step):

@@ -6,9 +6,9 @@ from .values import IntType
 
 
 class Expression:
-    """An expression. `type` is an IntType or TEXT, once it is checked."""
+    """An expression. `of_type` is an IntType or TEXT, once it is checked."""
 
-    type = None
+    of_type = None
 
 
 @dataclass
@@ -111,7 +111,7 @@ class Declaration:
 
     line: int
     space: str
-    type: object
+    of_type: object
     name: str
     keys: list
 
