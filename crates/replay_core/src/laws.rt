@@ -15,7 +15,8 @@ ghost use Rattle.replay_core.specs.Groups.{AreGrouped, Grouping};
 ghost use Rattle.replay_core.specs.Meaning.{Threads, exit_of, history, blank_threads};
 ghost use Rattle.replay_core.specs.Patterns.{Selects, selects};
 ghost use Rattle.replay_core.specs.Running.{threads_over};
-ghost use Rattle.replay_core.specs.Uniting.{IsSorted, GroupsMakeUp, group_history, results_in_group};
+ghost use Rattle.replay_core.specs.Uniting.{GroupsMakeUp, IsSorted, group_history};
+ghost use Rattle.replay_core.specs.Uniting.{results_in_group};
 
 /// A description selects the probes that its patterns match.
 pub fn selected_is_matched()

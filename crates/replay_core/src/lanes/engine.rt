@@ -36,7 +36,8 @@ pub trait Engine {
             → IfOk result (λ exits. exits
             ≡ is_some (exit_of (history m (firing.now ∷ []) (seen self.old).threads))) }
         ensures script { (m : ScriptMeant) → runs self.old m → runs self.new m }
-        ensures spent { IsTrue (is_spent self.old) → IsErr result × (seen self.new ≡ seen self.old) }
+        ensures spent { IsTrue (is_spent self.old)
+            → IsErr result × (seen self.new ≡ seen self.old) }
         ensures err { IsTrue (is_spent self.new) ↔ IsErr result };
 
     /// Runs the clauses at these indices, which were selected for a firing, and returns whether it
@@ -59,7 +60,8 @@ pub trait Engine {
             ≡ is_some (exit_of (history m (firing.now ∷ []) (seen self.old).threads))) }
         ensures script { (m : ScriptMeant) → runs self.old m
             → indices.now ≡ selected_for m firing.now → runs self.new m }
-        ensures spent { IsTrue (is_spent self.old) → IsErr result × (seen self.new ≡ seen self.old) }
+        ensures spent { IsTrue (is_spent self.old)
+            → IsErr result × (seen self.new ≡ seen self.old) }
         ensures err { IsTrue (is_spent self.new) ↔ IsErr result }
     {
         self.fire(firing)

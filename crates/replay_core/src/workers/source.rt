@@ -38,14 +38,16 @@ pub trait Exits: Source {
     /// The least number becomes the lesser of itself and this one.
     fn lower(&self, seat: &mut Self::Seat, number: u64)
         requires { Self.is_at self.now seat.old }
-        ensures seat { Self.is_at self.now seat.new × (Self.handed seat.new ≡ Self.handed seat.old) }
+        ensures seat { Self.is_at self.now seat.new
+            × (Self.handed seat.new ≡ Self.handed seat.old) }
         ensures lowered { Self.lowered seat.new ≡ min (Self.lowered seat.old) number }
         ensures seen { Self.seen seat.new ≡ Self.seen seat.old };
 
     /// The least number, which is no more than what this seat lowered or was shown.
     fn least(&self, seat: &mut Self::Seat) -> u64
         requires { Self.is_at self.now seat.old }
-        ensures seat { Self.is_at self.now seat.new × (Self.handed seat.new ≡ Self.handed seat.old) }
+        ensures seat { Self.is_at self.now seat.new
+            × (Self.handed seat.new ≡ Self.handed seat.old) }
         ensures own { (result ≤ Self.lowered seat.old) × (result ≤ Self.seen seat.old) }
         ensures lowered { Self.lowered seat.new ≡ Self.lowered seat.old }
         ensures seen { Self.seen seat.new ≡ result };
