@@ -14,9 +14,9 @@ use Rattle.d_lexer.specs.declared.token.TokenKind.TheVariants as kind
 use Rattle.d_lexer.specs.declared.place.Place.{Place}
 use Rattle.d_lexer.specs.declared.place.Place.TheVariants.{Head, Declaration, Predicate, Body}
 use Rattle.d_lexer.specs.declared.position.Position.{Position}
-use Rattle.d_lexer.specs.declared.front.Front.{Front}
-use Rattle.d_lexer.specs.declared.front.Front.TheVariants as front
-use Rattle.d_lexer.specs.declared.front.Front.TheVariants.{Gap}
+use Rattle.d_lexer.specs.declared.token.Front.{Front}
+use Rattle.d_lexer.specs.declared.token.Front.TheVariants as front
+use Rattle.d_lexer.specs.declared.token.Front.TheVariants.{Gap}
 use Rattle.d_lexer.specs.declared.fault.Flaw.{Flaw}
 use Rattle.d_lexer.specs.declared.fault.Flaw.TheVariants as f
 use Rattle.d_lexer.specs.declared.fault.LexFault.{LexFault}

@@ -10,8 +10,8 @@ use Rattle.d_lexer.specs.declared.place.Place.{Place}
 use Rattle.d_lexer.specs.declared.position.Position.{Position}
 use Rattle.d_lexer.specs.declared.fault.Flaw.{Flaw}
 use Rattle.d_lexer.specs.declared.fault.Stop.{Stop}
-use Rattle.d_lexer.specs.declared.front.Front.{Front}
-use Rattle.d_lexer.specs.declared.front.Front.TheVariants as front
+use Rattle.d_lexer.specs.declared.token.Front.{Front}
+use Rattle.d_lexer.specs.declared.token.Front.TheVariants as front
 use Rattle.d_lexer.specs.Places.{after_byte, position_after, place_after}
 use Rattle.d_lexer.specs.Faults.{on_line}
 use Rattle.d_lexer.specs.Steps.Scan.{TokensEnd, Clean, Bad, scan, front_at, Gives, FitsFront}

@@ -6,8 +6,8 @@ use Rattle.d_lexer.specs.declared.token.Token.{Token}
 use Rattle.d_lexer.specs.declared.place.Place.{Place}
 use Rattle.d_lexer.specs.declared.place.Place.TheVariants.{Head}
 use Rattle.d_lexer.specs.declared.position.Position.{Position}
-use Rattle.d_lexer.specs.declared.front.Front.{Front}
-use Rattle.d_lexer.specs.declared.front.Front.TheVariants as front
+use Rattle.d_lexer.specs.declared.token.Front.{Front}
+use Rattle.d_lexer.specs.declared.token.Front.TheVariants as front
 use Rattle.d_lexer.specs.declared.fault.Flaw.{Flaw}
 use Rattle.d_lexer.specs.declared.fault.Flaw.TheVariants as f
 use Rattle.d_lexer.specs.Faults.{on_line}

@@ -7,8 +7,8 @@ pub use Rattle.d_lexer.specs.declared.fault.Flaw.TheVariants.{OptionLine}
 pub use Rattle.d_lexer.specs.declared.fault.LexFault.{LexFault}
 pub use Rattle.d_lexer.specs.declared.fault.Stop.{Stop}
 pub use Rattle.d_lexer.specs.declared.fault.TheConstants.{MAX_BYTES}
-pub use Rattle.d_lexer.specs.declared.front.Front.{Front}
-pub use Rattle.d_lexer.specs.declared.front.Front.TheVariants.{Gap}
+pub use Rattle.d_lexer.specs.declared.token.Front.{Front}
+pub use Rattle.d_lexer.specs.declared.token.Front.TheVariants.{Gap}
 pub use Rattle.d_lexer.specs.declared.place.Place.{Place}
 pub use Rattle.d_lexer.specs.declared.place.Place.TheVariants.{Head, Declaration, Predicate, Body}
 pub use Rattle.d_lexer.specs.declared.position.Position.{Position}

@@ -17,16 +17,9 @@ use crate::option_line::is_option;
 use crate::place::Place;
 use crate::position::Position;
 use crate::text_constant::text;
-use crate::token::TokenKind;
+use crate::token::{Front, TokenKind};
 use crate::words::{aggregation_front, run_front, word_front};
 use std::alloc::Global;
-
-/// Bytes that separate tokens, or a token; and its number of bytes after the first.
-#[derive(Drop)]
-pub enum Front {
-    Gap(usize),
-    Token(TokenKind, usize),
-}
 
 fn number_front(b: u8, rest: &[u8]) -> Result<Front, Stop>
     requires { is_ascii_digit b ≡ true }

@@ -10,10 +10,10 @@ ghost use Rattle.d_lexer.specs.Lexing as spec;
 
 use crate::closing_slash::settle;
 use crate::fault::{LexFault, MAX_BYTES, Stop};
-use crate::front::{Front, look};
+use crate::front::look;
 use crate::place::Place;
 use crate::position::Position;
-use crate::token::Token;
+use crate::token::{Front, Token};
 use std::alloc::Global;
 
 // Puts one token more.

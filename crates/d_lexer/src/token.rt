@@ -142,3 +142,10 @@ pub struct Token {
     /// The line on which it begins.
     pub line: usize,
 }
+
+/// Bytes that separate tokens, or a token; and its number of bytes after the first.
+#[derive(Drop)]
+pub enum Front {
+    Gap(usize),
+    Token(TokenKind, usize),
+}

@@ -7,8 +7,7 @@ ghost use Rattle.d_lexer.specs.Steps.Scan as scan;
 use crate::byte_kinds::{is_word_start, run_len, word_len};
 use crate::byte_string::ByteString;
 use crate::fault::Stop;
-use crate::front::Front;
-use crate::token::TokenKind;
+use crate::token::{Front, TokenKind};
 use std::alloc::Global;
 
 // Adds the bytes of a run, its first byte and the others.
