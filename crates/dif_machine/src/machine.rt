@@ -18,7 +18,7 @@ use crate::comparing::Comparison;
 use crate::content::Content;
 use crate::lasting::lasting_with;
 use crate::memory::{Memory, Variable};
-use crate::tables::value_in;
+use crate::tables::{text_word, value_in};
 use d_values::{Value, Var, join_text};
 use dif_validate::{Function, Reg};
 use firings::Firing;
@@ -400,16 +400,6 @@ fn call(
             _ => unreachable!(),
         },
     }
-}
-
-/// The word of a text.
-#[inline(always)]
-pub(crate) fn text_word(texts: &mut Texts, bytes: &[u8]) -> Result<Word, AllocError>
-    ensures kept { Keeps texts.old texts.new }
-    ensures word { IfOk result (λ word. IsWordOf texts.new word (Value.Text bytes.now)) }
-{
-    let number = texts.number(bytes)?;
-    Ok(Word::Text(number))
 }
 
 // A word, as a register holds it.

@@ -6,9 +6,8 @@ ghost use Rattle.d_values.specs.Keys as keys;
 ghost use Rattle.d_values.specs.Storage.{as_kind, variables};
 ghost use Rattle.d_values.specs.Stores.{kind_of, lent_value};
 ghost use Rattle.dif_machine.specs.Machine.{IsWordOf, key_in, value_of};
-ghost use Rattle.dif_machine.specs.Vocabulary.{Kind};
+ghost use Rattle.dif_machine.specs.Vocabulary.{Kind, Value};
 
-use crate::machine::text_word;
 use crate::memory::Memory;
 use d_values::{ClauseLocals, Key, KeyPart, Text, ThreadTable, Value, ValueRef, Var};
 use numbered::{Texts, Tuple, Word};
@@ -56,6 +55,16 @@ impl Memory for Tables {
     }
 
     ghost stays = { λ m old new over kept. (tt, refl) };
+}
+
+/// The word of a text.
+#[inline(always)]
+pub(crate) fn text_word(texts: &mut Texts, bytes: &[u8]) -> Result<Word, AllocError>
+    ensures kept { Keeps texts.old texts.new }
+    ensures word { IfOk result (λ word. IsWordOf texts.new word (Value.Text bytes.now)) }
+{
+    let number = texts.number(bytes)?;
+    Ok(Word::Text(number))
 }
 
 // The word of a value that is lent.
