@@ -42,6 +42,10 @@ impl LaneMemory {
     }
 
     /// Looks at another thread, and forgets the variables of the clause.
+    ///
+    /// ```text
+    /// memory.enter(firing.thread);
+    /// ```
     #[inline(always)]
     pub fn enter(&mut self, thread: i32)
         ensures thread { self.new.thread ≡ cast_unsigned w64 thread }

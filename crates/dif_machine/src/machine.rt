@@ -196,6 +196,10 @@ impl Machine {
     }
 
     /// The texts that have numbers.
+    ///
+    /// ```text
+    /// machine.texts().text(1); // the bytes of the text with the number 1
+    /// ```
     #[inline(always)]
     pub fn texts(&self) -> &Texts
         ensures { result.now ≡ self.now.texts }

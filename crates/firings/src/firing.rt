@@ -67,6 +67,10 @@ impl<'a> Args<'a> {
     }
 
     /// All of these.
+    ///
+    /// ```text
+    /// Args::of_all(&[7, 8, 0, 0, 0, 0, 0, 0, 0, 0]).nth(1); // 8
+    /// ```
     pub fn of_all(numbers: &'a [i64; 10]) -> Args<'a>
         ensures { result ≡ numbers.now }
     {
@@ -89,6 +93,10 @@ impl<'a> Args<'a> {
     }
 
     /// The arguments, but for zeros at the end.
+    ///
+    /// ```text
+    /// Args::of(&[7, 8]).stored(); // [7, 8]
+    /// ```
     pub fn stored(&self) -> &'a [i64]
         ensures few { length result.now ≤ 10 }
         ensures ten { ten result.now ≡ self.now }

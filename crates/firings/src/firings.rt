@@ -44,6 +44,10 @@ impl Model for Firings {
 
 impl Firings {
     /// The firings of rows, with the owners, the probes and the arguments that they name.
+    ///
+    /// ```text
+    /// let trace = Trace::of(Firings::of(owners, probes, args, rows));
+    /// ```
     pub fn of(
         owners: Units<OwnerEntry>,
         probes: Units<ProbeEntry>,

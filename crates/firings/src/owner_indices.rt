@@ -13,6 +13,7 @@ use std::marker::Model;
 /// ```text
 /// // of rows of the threads 7, 9 and 7
 /// let indices = trace.firings().owner_indices();
+/// indices.owner_count(); // 2, if the rows of thread 7 have one owner
 /// indices.thread(indices.index_of(1)); // 9
 /// ```
 #[derive(Drop)]

@@ -11,6 +11,10 @@ pub struct Given {
 
 impl Given {
     /// `count` arguments from the index `first` on; none if that is 2^28 or more.
+    ///
+    /// ```text
+    /// Given::new(20, 3); // the arguments 20 to 22
+    /// ```
     pub fn new(first: usize, count: u32) -> Option<Given>
         requires { count ≤ 10 }
         ensures first { IfSome result (λ g. first_of g ≡ first) }
@@ -38,6 +42,10 @@ impl Given {
     }
 
     /// As many arguments, with the index of the first `shift` higher.
+    ///
+    /// ```text
+    /// Given::new(20, 3)?.moved(100); // the arguments 120 to 122
+    /// ```
     pub fn moved(self, shift: u32) -> Given
         requires { first_of self + shift < 2 ^ 28 }
         ensures { result ≡ moved_given shift self }

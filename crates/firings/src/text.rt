@@ -26,7 +26,12 @@ impl<'a> Model for Text<'a> {
 }
 
 impl<'a> Text<'a> {
-    /// The text of these bytes, where they are one.
+    /// The text of these bytes, if they are one.
+    ///
+    /// ```text
+    /// Text::from_bytes(b"sort"); // Some
+    /// Text::from_bytes(b"so\0rt"); // None: it has a zero byte
+    /// ```
     pub fn from_bytes(bytes: &'a [u8]) -> Option<Text<'a>>
         ensures { result ≡ text_of bytes.now }
     {
@@ -37,6 +42,10 @@ impl<'a> Text<'a> {
     }
 
     /// The text of these bytes, which are one.
+    ///
+    /// ```text
+    /// let name = Text::of(b"sort");
+    /// ```
     pub fn of(bytes: &'a [u8]) -> Text<'a>
         requires { text_of bytes.now ≡ Some bytes.now }
         ensures { result ≡ bytes.now }
@@ -56,6 +65,10 @@ impl<'a> Text<'a> {
     }
 
     /// How many bytes it has.
+    ///
+    /// ```text
+    /// Text::of(b"sort").count(); // 4
+    /// ```
     pub fn count(&self) -> u8
         ensures value { result ≡ length self.now }
         ensures text { text_of self.now ≡ Some self.now }

@@ -31,6 +31,10 @@ impl Model for Trace {
 
 impl Trace {
     /// The trace of firings that were read.
+    ///
+    /// ```text
+    /// let trace = Trace::of(Firings::of(owners, probes, args, rows));
+    /// ```
     pub fn of(firings: Firings) -> Trace
         requires { IsTrace firings }
         ensures { result ≡ firings }

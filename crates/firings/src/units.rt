@@ -42,6 +42,10 @@ impl<E: Entry> Model for Units<E> {
 
 impl<E: Entry> Units<E> {
     /// The units of these bytes.
+    ///
+    /// ```text
+    /// let owners = Units::of(bytes, known); // none, if both are empty
+    /// ```
     pub fn of(bytes: Vec<u8>, known: Vec<Known<E>>) -> Units<E>
         requires { All (IsUnitIn E.is_in bytes.items) known.items }
         ensures { result ≡ map (unit_in bytes.items) known.items }

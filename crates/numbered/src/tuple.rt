@@ -45,6 +45,11 @@ impl Tuple {
     }
 
     /// Forgets all words.
+    ///
+    /// ```text
+    /// tuple.clear();
+    /// tuple.words(); // []
+    /// ```
     #[inline(always)]
     pub fn clear(&mut self)
         ensures { self.new ≡ [] }
