@@ -15,7 +15,7 @@ pub record Histogram : Type 0 where
 abbrev pub histogram_of : Scale → List ℤ → Histogram
 histogram_of scale args = record { scale = scale; counts = counts_of scale args }
 
--- what is kept for the bucket: nothing where it was never used
+-- what is kept for the bucket: nothing if it was never used
 abbrev pub used_at : List (ℕ × ℕ) → ℕ → ℕ
 used_at used bucket = unwrap_or (lookup (nat_eq bucket) used) 0
 

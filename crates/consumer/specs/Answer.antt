@@ -15,7 +15,8 @@ pub record Output : Type 0 where
   pub bytes : List ℕ
   pub status : ℕ
 
--- the output, in this layout, of the run over BEGIN, these firings and END, up to the one that exits
+-- the output, in this layout, of the run over BEGIN, these firings up to the one that exits, and
+-- END
 pub record HasOutput (shows : LayoutMeant) (m : ScriptMeant) (firings : List Firing)
     (output : Output) : Type 0 where
   pub bytes : shows m (history_over m firings) output.bytes

@@ -16,7 +16,7 @@ use streams::{Failed, Feed, ReadFault, Reading, Watched, read_block};
 pub trait ScriptFiles {
     type File: Feed + Drop;
 
-    // The bytes of the file of this name, where they are known.
+    // The bytes of the file of this name, if they are known.
     ghost bytes: { Self → List ℕ → Option (List ℕ) };
 
     /// Opens a file, to be read from its first byte.

@@ -24,11 +24,12 @@ use streams::{Feed, ReadFault, Reading, read_block, take_next};
 // limit. A dividing line has up to four.
 const MAX_UNDIVIDED: usize = MAX_BYTES + 4;
 
-// How many bytes of a trace come while several workers read those before. Starting the workers
-// takes little time beside that.
+// How many bytes of a trace are taken while several workers read those before them. Starting the
+// workers takes little time beside that.
 const SHARED_BLOCK: usize = 1 << 22;
 
-// How many bytes several workers read at least. The row that isn't whole is apart from them.
+// How many bytes there are, at least, if several workers read them. The row that isn't whole is
+// not among them.
 const MIN_SHARED: usize = SHARED_BLOCK / 2;
 
 /// A script, and what was read of its trace. If the script is refused, no more of it is read.

@@ -124,7 +124,7 @@ pub fn one_grouping()
         → IsGroupedBy plan.groups trace g → IsMisgrouped plan.groups trace e → ⊥ }
 {}
 
-/// Without words a bundle is run, and with `-s FILE` the script of that file.
+/// Without words a program runs a bundle, and with `-s FILE` the script of that file.
 pub fn runs_accepted()
     ensures { (words : List (List ℕ)) (file : Option (List ℕ)) → AskForRun words file
         → (fault_of program words ≡ []) × (file_in (matches_of program words) ≡ file) }

@@ -7,8 +7,8 @@ use Rattle.d_lexer.specs.{Tokens.Lexes, Faults.IsFault}
 
 -- ---- the closing slash of a predicate
 
--- what a token is before tokens of these kinds: a slash of a predicate is the closing one exactly
--- where an opening brace comes next, and else a division
+-- what a token is before tokens of these kinds: a slash of a predicate is the closing one if an
+-- opening brace comes next, and a division if not
 abbrev pub settled_kind : TokenKind → List TokenKind → TokenKind
 settled_kind (TokenKind.Mark Mark.ClosingSlash) (TokenKind.Mark Mark.OpenBrace ∷ later) =
     TokenKind.Mark Mark.ClosingSlash

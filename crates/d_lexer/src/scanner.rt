@@ -81,7 +81,7 @@ fn jump(pos: Position, b: u8, rest: &[u8], n: usize) -> (Position, &[u8])
     (pos.pass(b).pass_all(&rest[..n]), &rest[n..])
 }
 
-// The tokens, whose slashes of a predicate are all read as closing ones.
+// The tokens, with every slash of a predicate taken for the closing one.
 fn scan_tokens(alloc: Global, bytes: &[u8]) -> Result<Vec<Token>, LexFault>
     requires { length bytes.now ≤ MAX_BYTES }
     ensures { Answers (λ ts. ts.items) result (scan 0 Head first_position bytes.now) }

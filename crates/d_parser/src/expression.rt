@@ -20,7 +20,7 @@ use crate::words::{WordKind, word_kind};
 use d_lexer::{ByteString, Mark, Token, TokenKind};
 use std::alloc::Global;
 
-/// Expressions with commas between, and the mark that closes them.
+/// Expressions separated by commas, and the mark that closes them.
 #[cycle(expression)]
 #[tactic(auto, unfolding(crate::specs::Steps::Reading::closed_list))]
 fn closed_list<'a>(

@@ -33,7 +33,7 @@ pub fn parse(alloc: Global, tokens: &[Token]) -> Result<Script, ParseFault>
     // Then clauses are counted.
     ensures many { ¬ IsDeep tokens.now → MAX_CLAUSES < clauses tokens.now
         → result ≡ Err ParseFault.TooManyClauses }
-    // A limit is reported only where it is passed.
+    // A limit is reported only if it is passed.
     ensures passed { OnlyLimits tokens.now result }
     // What is returned is a tree of the tokens.
     ensures found { IfOk result (λ s. IsScript (script_of s) tokens.now) }

@@ -34,7 +34,7 @@ lquantize (Trees.more e (Trees.more lower (Trees.more upper (Trees.more s Trees.
     buckets_between (whole_number lower) (whole_number upper) (natural s)
 lquantize args = None
 
--- a function with its bounds, where they are in range
+-- a function with its bounds, if they are in range
 abbrev pub function : Aggregating → Trees → Option AggFn
 function (Aggregating.Named f) args = Some f
 function Aggregating.Lquantize args = lquantize args
@@ -51,7 +51,7 @@ takes_arguments (Aggregating.Named AggFn.Count) n = nat_le n 0
 takes_arguments Aggregating.Lquantize n = nat_le 3 n && nat_le n 4
 takes_arguments f n = nat_le 1 n && nat_le n 1
 
--- integers, of the number that the function takes
+-- integers, as many as the function takes
 abbrev pub arguments_fit : Aggregating → Typeds → Bool
 arguments_fit f args = takes_arguments f (count args) && list_all is_integer (types_of args)
 

@@ -1,5 +1,5 @@
 -- What a script is typed as, or its first fault: parts come first, from the left to the right, then
--- the construct itself. Each construct has a rule; where its rule gives nothing, it is refused.
+-- the construct itself. Each construct has a rule; if its rule gives nothing, it is refused.
 -- Source: Dynamic Tracing Guide, "Program Structure" and "Type Promotion".
 use Rattle.std.specs.Prelude.{◌≡◌, ◌≢◌, ◌≤◌, ◌⊎◌, ◌++◌, ℕ, true, List, [], ◌∷◌, length, Option}
 use Rattle.std.specs.Prelude.{map, Some, None, Result, Ok, Err}

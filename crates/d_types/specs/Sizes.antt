@@ -57,6 +57,6 @@ pub record HasAtMost (n : ℕ) (m : ScriptMeant) : Type 0 where
   pub few_statements : in_all statement_count m.clauses ≤ n
   pub few_variables : in_all variable_count m.clauses ≤ n
 
--- how many of a clause's statements run where each of its descriptions matches a firing
+-- how many of a clause's statements run if each of its descriptions matches a firing
 abbrev pub most_runs : ClauseMeant → ℕ
 most_runs c = description_count c * statement_count c

@@ -132,7 +132,7 @@ fn lquantize(args: &[Expr]) -> Option<AggFn>
     }
 }
 
-/// An aggregating function with its bounds. None where they aren't in range.
+/// An aggregating function with its bounds. None if they aren't in range.
 #[tactic(auto, using(crate::proofs::Bounds::lquantize_kept))]
 fn function_of(aggregating: Aggregating, args: &[Expr]) -> Option<AggFn>
     ensures { result ≡ spec.function aggregating (trees_of args.now) }
@@ -175,7 +175,7 @@ fn takes(aggregating: Aggregating, n: usize) -> bool
     }
 }
 
-/// Whether they are integers, of the number that the function takes.
+/// Whether the arguments are integers, as many as the function takes.
 #[tactic(auto, using(crate::proofs::Rows::count_is))]
 fn arguments_fit(aggregating: Aggregating, args: &[TypedExpr]) -> bool
     ensures { result ≡ spec.arguments_fit aggregating (typeds_of args.now) }

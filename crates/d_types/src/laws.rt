@@ -38,7 +38,7 @@ pub fn statements_are_proper()
 {}
 
 /// A run of a clause makes one contribution at most for each of its statements, whatever the
-/// clause. In a typed script at most 2^32 statements run at one firing, where each clause runs once
+/// clause. In a typed script at most 2^32 statements run at one firing, if each clause runs once
 /// for each of its descriptions.
 pub fn contributions_are_few()
     ensures run { (f : Firing) (index : ℕ) (clause : ClauseMeant) (vars : Variables)

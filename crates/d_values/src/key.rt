@@ -191,7 +191,7 @@ impl Key {
         self.parts.as_slice()
     }
 
-    /// Adds a part at the right. Where memory was refused the key stays as it was.
+    /// Adds a part at the right. If memory was refused, the key stays as it was.
     ///
     /// ```text
     /// let mut key = Key::new(alloc);

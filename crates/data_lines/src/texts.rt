@@ -29,7 +29,7 @@ fn put_hex(out: &mut Vec<u8>, byte: u8) -> Result<(), AllocError>
     Ok(())
 }
 
-// Puts a byte of a text, escaped where JSON wants it.
+// Puts a byte of a text, escaped if JSON wants it.
 fn put_escape(out: &mut Vec<u8>, byte: u8) -> Result<(), AllocError>
     ensures { OnOk result (out.new.items ≡ out.old.items ++ spec.json_escape byte) }
 {
@@ -115,7 +115,7 @@ fn put_in_hex(out: &mut Vec<u8>, text: &[u8]) -> Result<(), AllocError>
     out.extend_from_slice(b"\"}")
 }
 
-/// Puts a text: a string where it is UTF-8, and else an object. Most texts are plain bytes and a
+/// Puts a text: a string if it is UTF-8, and else an object. Most texts are plain bytes and a
 /// line feed.
 pub fn put_text(out: &mut Vec<u8>, text: &[u8]) -> Result<(), AllocError>
     ensures { OnOk result (out.new.items ≡ out.old.items ++ spec.text_value text.now) }

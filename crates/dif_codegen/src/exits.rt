@@ -33,7 +33,7 @@ impl CompiledClause {
 }
 
 impl Program {
-    /// Whether it has an exit, which it has exactly where its script has one.
+    /// Whether it has an exit, which it has exactly if its script has one.
     ///
     /// ```text
     /// program.exits() // true, of `hit / arg0 == 7 / { exit(1); }`

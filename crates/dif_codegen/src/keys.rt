@@ -16,7 +16,7 @@ use std::alloc::AllocError;
 pub(crate) struct Target<'a> {
     /// The variable.
     pub(crate) variable: Variable,
-    /// The keys, none where it is the variable itself.
+    /// The keys, none if it is the variable itself.
     pub(crate) keys: &'a [TypedExpr],
 }
 

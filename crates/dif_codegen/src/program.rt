@@ -27,7 +27,7 @@ impl TypedObject {
     /// writes so far, even after a fault or if memory was refused.
     ///
     /// ```text
-    /// // of `timestamp`, where the firing's time is 1000
+    /// // of `timestamp`, if the firing's time is 1000
     /// object.run_on(&firing, &mut machine, &mut memory)?; // Word::Int(1000)
     /// ```
     #[inline(always)]

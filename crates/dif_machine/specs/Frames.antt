@@ -4,7 +4,7 @@
 use Rattle.std.specs.Prelude.{ℕ, ◌+◌, List, [], ◌∷◌, Option, Some, None}
 use Rattle.dif_machine.specs.Vocabulary.{Comparison, KeyPart, Reg, put, Value, Int}
 
--- the index of the instruction that is next, what each register holds (none where it is unset), how
+-- the index of the instruction that is next, what each register holds (none if it is unset), how
 -- the two values compare that were compared last, and the tuple
 pub record Frame : Type 0 where
   pub pc : ℕ

@@ -51,7 +51,7 @@ fn run_to_end<M: Memory>(
 /// so far, even after a fault.
 ///
 /// ```text
-/// // setx 0, r1; stls n0, r1; ret r1, where the number is 5
+/// // setx 0, r1; stls n0, r1; ret r1, if the number is 5
 /// let word = run_on(&valid, &firing, &mut machine, &mut memory)?; // Word::Int(5)
 /// ```
 #[inline(always)]
@@ -82,9 +82,9 @@ pub fn run_on<M: Memory>(
 /// keep the writes so far, even after a fault.
 ///
 /// ```text
-/// // setx 0, r1; stls n0, r1; ret r1, where the number is 5
+/// // setx 0, r1; stls n0, r1; ret r1, if the number is 5
 /// let value = run(alloc, &valid, &firing, &mut locals, &mut own)?; // Int(5)
-/// locals.get(x) // Int(5), where x is the integer of slot 0
+/// locals.get(x) // Int(5), if x is the integer of slot 0
 /// ```
 pub fn run(
     alloc: Global,
@@ -112,7 +112,7 @@ pub fn run(
     result
 }
 
-// The same over tables.
+// Runs an object over tables of values, and returns what it returns.
 fn run_on_tables(
     alloc: Global,
     valid: &ValidDifo,

@@ -67,6 +67,6 @@ shape_at code zero pc = shape_at_start pc
 shape_at code (suc q) pc =
     further (shape_at code q pc) (slice_get code q) q (shape_at code q q) pc
 
--- what is known before the instruction at pc; none where no way leads to it
+-- what is known before the instruction at pc; none if no way leads to it
 abbrev pub before : List Instr → ℕ → Option Shape
 before code pc = shape_at code pc pc

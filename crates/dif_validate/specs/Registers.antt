@@ -15,7 +15,7 @@ register_number R5 = 5
 register_number R6 = 6
 register_number R7 = 7
 
--- what is known of a register, or none where it is unset
+-- what is known of a register, or none if it is unset
 abbrev pub at : {A : Type 0} → List (Option A) → Reg → Option A
 at registers r = slice_index_or registers (register_number r) None
 

@@ -43,7 +43,7 @@ first_shape = record {
   tuple = Some [];
 }
 
--- where ways meet, a kind is kept where they agree
+-- where ways meet, a kind is kept if they agree
 abbrev pub common_kind : Option Kind → Option Kind → Option Kind
 common_kind (Some k) (Some j) = if is_same k j then Some k else None
 common_kind _ _ = None

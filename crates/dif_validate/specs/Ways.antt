@@ -19,7 +19,7 @@ pub data Way (code : List Instr) : ℕ → Shape → Type 0 where
 abbrev pub OnAllWays : List Instr → ℕ → (Shape → Type 0) → Type 0
 OnAllWays code pc Known = (s : Shape) → Way code pc s → Known s
 
--- a register's kind is known here exactly where each way makes it known, and so it is with a
+-- a register's kind is known here exactly if each way makes it known, and so it is with a
 -- comparison and with the kinds of the tuple
 pub record IsOfAllWays (code : List Instr) (pc : ℕ) (s : Shape) : Type 0 where
   pub registers : (r : Reg) (k : Kind) → (at s.registers r ≡ Some k)

@@ -5,7 +5,7 @@ ghost use Rattle.dif_validate.specs.Vocabulary.{DifFault, Instr, Memory, Object,
 ghost use Rattle.dif_validate.specs.{Flow.before, Ways.IsOfAllWays, Ways.Way};
 ghost use Rattle.dif_validate.specs.Validity.{IsInvalid, IsValid};
 
-/// Something is known before an instruction exactly where a way leads to it: what all ways that do
+/// Something is known before an instruction exactly if a way leads to it. It is what all such ways
 /// make known, and no more.
 pub fn known_on_all_ways()
     ensures reached { (code : List Instr) (pc : ℕ) → ((s : Shape) × (before code pc ≡ Some s))

@@ -9,7 +9,7 @@ use crate::object::Difo;
 use crate::register::Reg;
 use d_values::Var;
 
-/// What an object loads that does nothing else than load a value and return it.
+/// What an object loads, if it only loads a value and returns it.
 #[derive(Clone, Copy, Debug)]
 pub enum Load {
     /// The built-in variable of this number.

@@ -105,7 +105,7 @@ impl<'a, L: Lanes> Lanes for MeetingLanes<'a, L> {
     }
 }
 
-// How many groups ran, where the lanes of a trace's two threads meet.
+// How many groups ran, if the lanes of a trace's two threads meet.
 fn groups_over<R: Threads + Wait + Sync>(
     rt: &R,
     alloc: Global,
@@ -134,7 +134,7 @@ fn groups_of_two<R: Threads + Wait + Sync>(
     groups_over(rt, alloc, meeting, script, &trace)
 }
 
-// How many groups ran, where the lanes of the two threads meet.
+// How many groups ran, if the lanes of the two threads meet.
 fn groups_run<R: Threads + Wait + Sync>(
     rt: &R,
     alloc: Global,

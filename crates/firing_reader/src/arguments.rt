@@ -19,7 +19,7 @@ pub(crate) fn keep_arguments(all: &mut Vec<i64>, args: &[i64]) -> Option<Given>
     Given::new(first, count as u32)
 }
 
-/// Adds the arguments of other firings to all: the index of the first of them.
+/// Adds the arguments of other firings to all, and returns the index of the first of them.
 pub(crate) fn add_arguments(all: &mut Vec<i64>, others: &[i64]) -> Option<u32>
     ensures { Gains all.old.items all.new.items result (λ index. (index ≡ length all.old.items)
         × (all.new.items ≡ all.old.items ++ others.now) × (length all.new.items < 2 ^ 28)) }

@@ -52,7 +52,7 @@ fn after(place: Place, byte: u8) -> Place
     }
 }
 
-/// How many bytes there are up to the end of the first row that ends after so many bytes, or else
+/// How many bytes there are up to the end of the first row that ends after `enough` bytes, or else
 /// to that of the last whole row; 0 if no row ends.
 pub(crate) fn end_of_rows(bytes: &[u8], enough: usize) -> usize
     ensures count { result ≤ length bytes.now }

@@ -133,7 +133,7 @@ impl<E: PlainEntry> UnitTable<E> {
         is_plain == plain && is_same(bytes, key)
     }
 
-    // The index of the unit of these bytes and this tag, where it is found.
+    // The index of the unit of these bytes and this tag, if it is found.
     #[inline(always)]
     fn find(&self, key: &[u8], plain: bool, tag: u32) -> Option<u32>
         ensures { IfSome result (IsUnitOf E.reads self.now key.now plain) }
@@ -150,7 +150,7 @@ impl<E: PlainEntry> UnitTable<E> {
         None
     }
 
-    // Keeps a unit at a new index. Where memory is refused nothing is kept.
+    // Keeps a unit at a new index. If memory is refused, nothing is kept.
     fn push(&mut self, key: &[u8], plain: bool, tag: u32, entry: E) -> Option<u32>
         requires inside { E.is_in entry key.now }
         requires reads { plain ≡ true → E.reads entry key.now }
@@ -219,7 +219,7 @@ impl<E: PlainEntry> UnitTable<E> {
         kept.is(entry)
     }
 
-    // The first slots of others at 16 indices from this one on: where they may be.
+    // The first slot of each of 16 others, from this one on: where it may be.
     fn first_indices(&self, others: &UnitTable<E>, from: usize) -> [u32; TOGETHER] {
         let mut indices = [NOWHERE; TOGETHER];
         for n in 0..TOGETHER {
@@ -230,8 +230,8 @@ impl<E: PlainEntry> UnitTable<E> {
         indices
     }
 
-    // Where others may be among these, for those at 16 indices from this one on: guesses, which are
-    // checked. Each step is taken for all of them before the next.
+    // Where 16 of the others, from this one on, may be among these. These are guesses, to be
+    // checked. Each step is taken for all 16 before the next.
     fn guesses(&self, others: &UnitTable<E>, from: usize) -> [u32; TOGETHER] {
         let mut guesses = self.first_indices(others, from);
         for n in 0..TOGETHER {
@@ -242,7 +242,7 @@ impl<E: PlainEntry> UnitTable<E> {
         guesses
     }
 
-    // Whether a unit has as many bytes as one of others, and the same first.
+    // Whether a unit has as many bytes as one of the others, and the same first byte.
     fn begins_alike(&self, index: u32, others: &UnitTable<E>, at: usize) -> bool {
         match (self.known.get(index as usize), others.known.get(at)) {
             (Some(known), Some(other)) => {

@@ -21,7 +21,7 @@ first_of g = g.packed / 16
 abbrev pub count_of : Given → ℕ
 count_of g = g.packed % 16
 
--- as many arguments that begin so much later
+-- as many arguments, which begin this much later
 abbrev pub moved_given : ℕ → Given → Given
 moved_given shift g = record { packed = g.packed + 16 * shift }
 

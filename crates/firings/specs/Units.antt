@@ -8,7 +8,7 @@ use Rattle.firings.specs.declared.unit.Probe.{Probe}
 use Rattle.firings.specs.declared.units.Known.{Known}
 use Rattle.firings.specs.Texts.{text_of}
 
--- so many bytes from an index on
+-- this many bytes from an index on
 abbrev pub part : List ℕ → ℕ → ℕ → List ℕ
 part bytes begin count = take count (drop begin bytes)
 
@@ -22,7 +22,7 @@ pub record IsUnitIn {E : Type 0} (In : E → List ℕ → Type 0) (bytes : List 
   pub inside : k.begin + k.count ≤ length bytes
   pub is_in : In k.entry (part bytes k.begin k.count)
 
--- there are so many bytes from this index on, and they are a text
+-- there are this many bytes from this index on, and they are a text
 pub record IsTextIn (bytes : List ℕ) (begin count : ℕ) : Type 0 where
   pub inside : begin + count ≤ length bytes
   pub text : text_of (part bytes begin count) ≡ Some (part bytes begin count)

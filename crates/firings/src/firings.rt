@@ -96,7 +96,7 @@ impl Firings {
     ///
     /// ```text
     /// let rows = trace.firings().rows(&[1, 40]);
-    /// rows.get(1); // the firing of row 39, or None where there are fewer rows
+    /// rows.get(1); // the firing of row 39, or None if there are fewer rows
     /// ```
     pub fn rows(&self, indices: &[u32]) -> FiringRows
         requires { length indices.now ≤ MAX_TOGETHER }
@@ -114,7 +114,7 @@ impl Firings {
     /// Which probe each is of.
     ///
     /// ```text
-    /// trace.firings().probe_indices().probe_count(); // 2, where the rows are of two probes
+    /// trace.firings().probe_indices().probe_count(); // 2, if the rows are of two probes
     /// ```
     pub fn probe_indices(&self) -> ProbeIndices
         ensures { AreIndices result.probes result.indices (map probe_of self.now) }
@@ -125,7 +125,7 @@ impl Firings {
     /// Which owner each is of.
     ///
     /// ```text
-    /// trace.firings().owner_indices().owner_count(); // 2, where the rows are of two owners
+    /// trace.firings().owner_indices().owner_count(); // 2, if the rows are of two owners
     /// ```
     pub fn owner_indices(&self) -> OwnerIndices
         ensures { AreIndices result.0 result.1 (map thread_of self.now) }
@@ -139,7 +139,7 @@ impl Firings {
     /// The number of the last, or 0 if there are none.
     ///
     /// ```text
-    /// trace.firings().last_number(); // 9, where the last row begins with 9
+    /// trace.firings().last_number(); // 9, if the last row begins with 9
     /// ```
     pub fn last_number(&self) -> u64
         ensures { result ≡ last_number_of self.now }

@@ -53,7 +53,7 @@ impl<'a> Text<'a> {
         Text { bytes }
     }
 
-    /// The text of so many bytes from an index on.
+    /// The text of `count` bytes from an index on.
     #[inline(always)]
     pub(crate) fn within(bytes: &'a [u8], begin: usize, count: u8) -> Text<'a>
         requires inside { begin + count ≤ length bytes.now }

@@ -47,7 +47,7 @@ impl Trace {
     ///
     /// ```text
     /// let trace = read_trace(alloc, &bytes)?;
-    /// trace.firings().get(0).thread; // 7, where the first row has this thread
+    /// trace.firings().get(0).thread; // 7, if the first row has this thread
     /// ```
     pub fn firings(&self) -> &Firings
         ensures value { result.now ≡ self.now }

@@ -198,8 +198,8 @@ fn put(map: &mut Map, index: usize, word: u64)
     }
 }
 
-// Leaves out the entries of 0 if there are as many as that, which then is four times as many as are
-// left.
+// Leaves out the entries of 0 if the map has as many entries as the limit, which is then four times
+// as many as are left.
 fn make_room(map: &mut Map, limit: &mut usize)
     ensures { word_in map.new.entries ≡ word_in map.old.entries }
 {

@@ -15,7 +15,7 @@ pub(crate) struct Id {
 }
 
 impl Id {
-    /// The id of this number, where it is one of a thread or a process.
+    /// The id of this number, if it is one of a thread or a process.
     pub(crate) fn of(number: u64) -> Option<Id>
         ensures { IfSome result (λ id. id.number ≡ number) }
     {

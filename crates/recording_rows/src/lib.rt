@@ -1,4 +1,4 @@
-//! The rows of a trace that a recording of strace makes, where its lines are those that
+//! The rows of a trace that a recording of strace makes, if its lines are those that
 //! `dreplay-record` records. Whatever the recording is, what is written is a trace.
 //!
 //! ```text

@@ -37,7 +37,7 @@ pub(crate) struct Line<'a> {
 }
 
 impl<'a> Line<'a> {
-    /// The parts of a line, where it is known.
+    /// The parts of a line, if it is known.
     pub(crate) fn of(line: &'a [u8]) -> Option<Line<'a>> {
         if line.first() == Some(&b'0') {
             return None;

@@ -6,7 +6,7 @@ use core::dec2flt::read_digits;
 // The digits of a fraction of a second that there can be.
 const NANOSECOND_DIGITS: usize = 9;
 
-// How many nanoseconds the last digit of a fraction of so many digits stands for.
+// How many nanoseconds the last digit of a fraction stands for, by the number of its digits.
 const SCALES: [u64; 10] = [
     1_000_000_000,
     100_000_000,
@@ -26,7 +26,7 @@ const MAX_DECIMAL: usize = 19;
 
 const MAX_HEXADECIMAL: usize = 16;
 
-/// The number of at least one decimal digit and at most so many.
+/// The number that decimal digits write: one at least, and at most `most`.
 #[inline(always)]
 pub(crate) fn decimal(shown: &[u8], most: usize) -> Option<(u64, &[u8])> {
     let (count, number) = read_digits(shown, 0, 0);
@@ -87,7 +87,7 @@ pub(crate) fn integer(shown: &[u8]) -> Option<(i64, &[u8])> {
     Some((size.wrapping_neg().cast_signed(), rest))
 }
 
-/// Nanoseconds that are shown as seconds, of at most so many digits, and a fraction.
+/// Nanoseconds that are shown as seconds, of at most `most` digits, and a fraction.
 pub(crate) fn nanoseconds(shown: &[u8], most: usize) -> Option<(u64, &[u8])> {
     let (seconds, rest) = decimal(shown, most)?;
     let fraction = rest.strip_prefix(b".")?;

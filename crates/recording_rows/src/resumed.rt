@@ -38,7 +38,7 @@ pub(crate) fn rests<'a>(
     Ok(rests)
 }
 
-// Takes a line that is so many lines before the end. Those of calls that break off count.
+// Takes a line that is this many lines before the end. Those of calls that break off count.
 #[inline(always)]
 fn take<'a>(
     rests: &mut Vec<Option<Rest<'a>>>,
@@ -86,7 +86,7 @@ fn may_be_split(line: &[u8]) -> bool {
     }
 }
 
-// The rest of a call whose first line is so many lines before the end.
+// The rest of a call whose first line is this many lines before the end.
 fn since<'a>(lines: usize, rest: Option<Rest<'a>>) -> Option<Rest<'a>> {
     let rest = rest?;
     Some(Rest {

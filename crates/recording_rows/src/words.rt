@@ -29,7 +29,7 @@ fn are_plain(bytes: &[u8]) -> bool
 }
 
 impl<'a> Word<'a> {
-    /// The word of these bytes, where they are such a text.
+    /// The word of these bytes, if they are such a text.
     pub(crate) fn of(bytes: &'a [u8]) -> Option<Word<'a>>
         ensures { IfSome result (λ w. w.bytes.now ≡ bytes.now) }
     {

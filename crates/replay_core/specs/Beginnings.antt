@@ -46,7 +46,7 @@ pub record AreBegun (runs : ScriptMeant → Type 0) (seen : ℕ) (grouping : Gro
   pub each : (m : ScriptMeant) → runs m → All (IsBegunOf m seen grouping fs) pieces
   pub roomy : All (λ (g, piece). IsRoomy piece) pieces
 
--- a number, or that of the exit where it is less
+-- a number, or that of the exit if it is less
 abbrev pub lesser_of : ℕ → Option (ℕ × ℕ) → ℕ
 lesser_of number None = number
 lesser_of number (Some (other, status)) = min number other

@@ -8,8 +8,8 @@ use Rattle.report.specs.Vocabulary.{flat_map, label, levels_of, signed_decimal}
 use Rattle.report.specs.Columns.{at_left, at_right}
 use Rattle.std.specs.Str.{byte}
 
--- From one bucket before the first with arguments to one after the last: arguments are in a bucket up
--- to the next one, and in one from the bucket before.
+-- From one bucket before the first with arguments to one after the last: some arguments are in a
+-- bucket up to the next one, and some in one from the bucket before.
 abbrev pub is_row : List ℕ → ℕ → Bool
 is_row counts bucket =
     nat_lt 0 (sum (take (bucket + 2) counts)) && nat_lt 0 (sum (drop (bucket - 1) counts))

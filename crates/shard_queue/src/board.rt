@@ -140,7 +140,7 @@ impl ClaimBoard {
     ///
     /// ```text
     /// board.lower(&mut seat, 7);
-    /// board.least(&mut seat) // 7, or less where another seat lowered a lesser one
+    /// board.least(&mut seat) // 7, or less if another seat lowered a lesser one
     /// ```
     pub fn least(&self, seat: &mut ClaimSeat) -> u64
         requires { IsAt self.now seat.old }
@@ -158,7 +158,7 @@ impl ClaimBoard {
     ///
     /// ```text
     /// let closed = board.close(alloc, seats)?;
-    /// closed.lists // as [[0, 2], [1]], where the first seat claimed 0 and 2
+    /// closed.lists // as [[0, 2], [1]], if the first seat claimed 0 and 2
     /// ```
     pub fn close(self, alloc: Global, seats: Vec<ClaimSeat>) -> Result<Closed, AllocError>
         requires at { All (IsAt self) seats.items }

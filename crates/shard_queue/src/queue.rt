@@ -147,7 +147,7 @@ impl GroupQueue {
     /// if a seat is at the end. Err if memory was refused.
     ///
     /// ```text
-    /// queue.close(alloc, seats)? // as [[0, 2], [1]], where the first seat took 0 and 2
+    /// queue.close(alloc, seats)? // as [[0, 2], [1]], if the first seat took 0 and 2
     /// ```
     pub fn close(self, alloc: Global, seats: Vec<QueueSeat>) -> Result<Vec<Vec<u32>>, AllocError>
         requires at { All (IsIn self) seats.items }

@@ -5,7 +5,7 @@ use Rattle.std.specs.Io.KnownBytes.{Appends, Consumes}
 
 -- a sink
 pub record SinkSeen : Type 0 where
-  -- the bytes written so far, where they are known
+  -- the bytes written so far, if they are known
   pub bytes : Option (List ℕ)
   -- how many calls of put and of flush were made, a failed one too
   pub calls : ℕ
@@ -16,7 +16,7 @@ pub record SinkSeen : Type 0 where
 
 -- a feed
 pub record FeedSeen : Type 0 where
-  -- the bytes that are left, where they are known
+  -- the bytes that are left, if they are known
   pub remaining : Option (List ℕ)
   -- how many calls of get were made, a failed one too
   pub calls : ℕ

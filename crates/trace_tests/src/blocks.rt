@@ -40,7 +40,7 @@ fn take_beside<R: Threads>(
     reader.take_block(kept)
 }
 
-// Reads the same, where each block comes beside the rows before it.
+// Reads the same, but each block comes while the rows before it are read.
 fn in_blocks_beside<R: Threads>(
     rt: &R,
     alloc: Global,

@@ -115,7 +115,7 @@ abbrev pub mark_front : Option (Mark × ℕ) → Result Front Flaw
 mark_front None = Err BadByte
 mark_front (Some k) = Ok (Front.Token (TokenKind.Mark k.0) k.1)
 
--- a number, or a constant that is none
+-- a number, or the fault of a malformed one
 abbrev pub number_front : Option (ℕ × Suffix) → ℕ → Result Front Flaw
 number_front None len = Err Constant
 number_front (Some n) len = Ok (Front.Token (TokenKind.Number n.0 n.1) len)

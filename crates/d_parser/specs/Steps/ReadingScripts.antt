@@ -170,7 +170,7 @@ of_clause line ts =
     typed_name ts >>= λ x. after_mark Mark.Semicolon x.1 >>= λ rest.
     Some (OfClause line x.0.0 x.0.1, rest)
 
--- by the kind of the first word
+-- a declaration, by the kind of its first word
 abbrev pub declaration_by : WordKind → ℕ → ℕ → Reader DeclarationTree
 declaration_by WordKind.Thread n line ts = of_thread n line ts
 declaration_by WordKind.Clause n line ts = of_clause line ts

@@ -6,7 +6,7 @@ use Rattle.numbered.specs.declared.word.Word.{Word}
 use Rattle.dif_machine.specs.Frames.{start}
 use Rattle.dif_machine.specs.Machine.{IsWithin, Seen}
 
--- so many texts last: as many as before or more, and those of the words are among them
+-- this many texts last: as many as before or more, and those of the words are among them
 pub record LastsWith (texts : List (List ℕ)) (before : ℕ) (words : List Word) (lasting : ℕ)
     : Type 0 where
   pub least : before ≤ lasting

@@ -44,7 +44,7 @@ pub(super) fn scmp(machine: &mut Machine, a: Reg, b: Reg, next: usize) -> Step
     Ok(Onward::Goes(next))
 }
 
-/// `bCOND to`: goes to an index where the last comparison is so.
+/// `bCOND to`: goes to an index if the last comparison is so.
 #[inline(always)]
 pub(super) fn branch(machine: &mut Machine, condition: Condition, to: usize, next: usize) -> Step
     requires { CanExecute (Branch condition to) next machine.old.frame }

@@ -10,7 +10,7 @@ use Rattle.firing_reader.specs.Column.{number_from, signed_of}
 abbrev pub JoinsField : ℕ → Type 0
 JoinsField b = (b ≢ 44) × (b ≢ 34) × (b ≢ 13) × (b ≢ 10)
 
--- there are so many bytes, and this holds of each of the first ones
+-- there are this many bytes, and each of them at the front is so
 abbrev pub AreFirst : (ℕ → Type 0) → List ℕ → (count : ℕ) → Type 0
 AreFirst Holds bytes count = (count ≤ length bytes) × All Holds (take count bytes)
 

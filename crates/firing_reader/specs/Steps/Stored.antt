@@ -20,8 +20,8 @@ IsUnitOf {E} Reads units key plain index = (e : E) × (slice_get units index ≡
 abbrev pub owner_of : Firing → Owner
 owner_of f = record { thread = f.thread; pid = f.pid; execname = f.execname }
 
--- a row whose owner and probe have these indices among others, and whose arguments begin so much
--- later
+-- a row whose owner and probe have these indices among others, and whose arguments begin this
+-- much later
 abbrev pub moved_row : List ℕ → List ℕ → ℕ → Row → Row
 moved_row owners probes shift r = record r {
   owner = get_or owners r.owner 0;

@@ -44,7 +44,7 @@ fn after_last<'a>(bytes: &'a [u8], last: &[u8]) -> Option<&'a [u8]>
     Some(rest)
 }
 
-// What follows `count` arguments that are written alike, as `0` or not at all.
+// The bytes after `count` arguments that are all `0`, or all empty.
 #[inline(always)]
 fn after_alike(bytes: &[u8], count: usize) -> Option<&[u8]>
     requires most { count ≤ 10 }
@@ -82,8 +82,8 @@ fn keep_last<'a>(all: &mut Vec<i64>, bytes: &'a [u8]) -> Option<&'a [u8]>
     Some(end)
 }
 
-/// Keeps the arguments that come first, but for those that end them and are all written as `0`, or
-/// all empty. It returns where they are, and what comes from the end of the row on.
+/// Keeps the ten arguments, without those at the end that are all `0`, or all empty. It returns
+/// where they are, and what comes from the end of the row on.
 #[inline(always)]
 pub(crate) fn read_arguments<'a>(all: &mut Vec<i64>, bytes: &'a [u8]) -> Option<(Given, &'a [u8])>
     ensures { Gains all.old.items all.new.items result (λ p. IsGivenIn all.new.items p.0

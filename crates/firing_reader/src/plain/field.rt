@@ -1,4 +1,4 @@
-//! The fields of a plain row: each value and what comes after it, or None where csv has to read the
+//! The fields of a plain row: each value and what comes after it, or None if csv has to read the
 //! row.
 
 ghost use Rattle.std.specs.Prelude.{◌≡◌, ◌<◌, ◌≤◌, ◌+◌, ◌*◌, ◌∷◌, [], ℕ, List, IfSome, Some};

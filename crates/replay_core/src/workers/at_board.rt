@@ -84,7 +84,7 @@ impl<'a> LendSelections for Selections<'a> {
     }
 }
 
-/// Runs a worker for each seat, all at once, and joins them. Where one can't be started the others
+/// Runs a worker for each seat, all at once, and joins them. If one can't be started, the others
 /// are joined too. The workers are lent these selections, and not those of the input.
 pub(crate) fn in_threads<R, L, S, G>(
     rt: &R,
@@ -106,6 +106,7 @@ where
     ensures works { IfOk result (λ v. All (HasWorked span (L.runs input.now.lanes.now)
         input.now.groups.now input.now.trace.now board.now) v.items) }
 {
+    // Closures can't capture the input itself: see `LendSelections`.
     let (alloc, lanes, trace) = (input.alloc, input.lanes, input.trace);
     let (groups, gate) = (input.groups, input.gate);
     thread::scope(
