@@ -9,7 +9,7 @@ use Rattle.report.specs.Columns.{at_left, at_right}
 use Rattle.std.specs.Str.{byte}
 
 -- From one bucket before the first with arguments to one after the last: some arguments are in a
--- bucket up to the next one, and some in one from the bucket before.
+-- bucket up to the next one, and some in one from the bucket before on.
 abbrev pub is_row : List ℕ → ℕ → Bool
 is_row counts bucket =
     nat_lt 0 (sum (take (bucket + 2) counts)) && nat_lt 0 (sum (drop (bucket - 1) counts))
