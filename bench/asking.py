@@ -11,7 +11,7 @@ PROGRAM = f"{HERE}/../crates/dreplay/out/dreplay"
 QUESTIONS = ["reading", "counts", "latency", "heavy", "dense"]
 # Who counts by floating point, and rounds sums past 2^53.
 ROUNDING = ["mawk", "gawk"]
-# A build of so many C files by four compilers at once, and the rows that each file comes to.
+# How many C files are built, by four compilers at once, and the rows that each file comes to.
 BUILD = r"""
 set -e
 cd "$(mktemp -d)"
@@ -35,7 +35,7 @@ def parser(doc):
 
 
 def stop_without(tools, program):
-    """Ends the benchmark where a tool of the system or the program isn't there."""
+    """Ends the benchmark if a tool of the system or the program isn't there."""
     lacking = [tool for tool in tools if not shutil.which(tool)]
     if lacking:
         name = os.path.basename(sys.argv[0])

@@ -52,7 +52,7 @@ EACH = {
     "numbered text": 100,
     "byte of a numbered text": 1.1,
 }
-# What groups make. These terms count twice where a script exits.
+# What groups make. These terms count twice if a script exits.
 MADE_BY_GROUPS = [
     "text",
     "byte of a text",

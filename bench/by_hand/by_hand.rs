@@ -206,7 +206,7 @@ struct Heavy<'a> {
 }
 
 impl<'a> Heavy<'a> {
-    /// Takes the end of a call that took so long, when so many bytes were asked for by then.
+    /// Takes the end of a call: how long it took, and how many bytes were asked for by then.
     fn end(&mut self, it: &Firing<'a>, took: u64, bytes: i64) {
         let call = (it.program, it.function);
         let (count, most) = self.calls.entry(call).or_insert((0, bytes));

@@ -128,7 +128,7 @@ def with_stubs(text, path, stub, functions):
 
 
 def changed(old, new, path):
-    """Returns what differs in two texts of a file, or None where one has a function that the other
+    """Returns what differs in two texts of a file, or None if one has a function that the other
     lacks."""
     (functions, around), (new_functions, new_around) = split(old, path), split(new, path)
     if functions.keys() != new_functions.keys():
@@ -141,7 +141,7 @@ def changed(old, new, path):
 
 
 def changed_in(folder, texts):
-    """Returns what these new texts of a folder's files change, or None where no function is
+    """Returns what these new texts of a folder's files change, or None if no function is
     changed, or one is added or taken away."""
     found = Change({}, True, True)
     for path, text in texts.items():

@@ -54,7 +54,7 @@ def by_program(program, recording):
 
 def by_converter(recording):
     """The status of the converter, what it says, and the trace that it writes by itself. The status
-    is none where the program wouldn't be asked.
+    is none if the program wouldn't be asked.
     """
     with tempfile.TemporaryDirectory() as folder:
         path, out, tool = f"{folder}/recording", f"{folder}/trace.csv", Quiet()

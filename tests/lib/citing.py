@@ -1,7 +1,7 @@
 """Which definitions the clauses of sources rest on: those of public functions, of types, of traits
 and of laws, and what other crates cite; and those that only private functions of their crate cite.
 
-It goes by the text: a function is private where it is no `pub fn` and no method of a trait.
+It goes by the text: a function is private if it is no `pub fn` and no method of a trait.
 """
 import re
 from collections import defaultdict

@@ -11,7 +11,7 @@ KINDS = [("format", "dreplay-data"), ("kind", "text"), ("kind", "entry"), ("kind
 
 def fault_of(result, of_dreplay, wanted):
     """Says how an answer ends otherwise than dreplay's, but for the program's name, or how it isn't
-    the one that is wanted where there is one; or nothing."""
+    the one that is wanted if there is one; or nothing."""
     has, wants = (
         harness.Result(it.status, b"", it.stderr.replace(b"dreplay-data", b"dreplay"))
         for it in (result, of_dreplay)
@@ -36,7 +36,7 @@ def lines_fault(output):
 
 def interpret(bundle, seconds):
     """What the plain interpreter makes of a bundle as dreplay-data, but for the line of a syntax
-    fault, or nothing where it takes longer by the processor."""
+    fault, or nothing if it takes longer by the processor."""
     signal.signal(signal.SIGPROF, give_up)
     signal.setitimer(signal.ITIMER_PROF, seconds)
     try:

@@ -7,7 +7,7 @@ from lib import harness, toolchain
 
 
 def check():
-    """Gives each crate's name, and what `rt fmt --check` says of it, which is nothing where it is
+    """Gives each crate's name, and what `rt fmt --check` says of it, which is nothing if it is
     laid out."""
     rtlib = toolchain.load().rtlib
     folder = f"{harness.TOP}/crates"

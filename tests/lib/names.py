@@ -57,7 +57,7 @@ def definitions():
 
 
 def parts(text, start, pairs="([{ )]}"):
-    """What is in the bracket that opens at this place, split at its own commas; None where it isn't
+    """What is in the bracket that opens at this place, split at its own commas; None if it isn't
     closed."""
     opening, closing = pairs.split()
     depth, found, begin = 0, [], start + 1
@@ -134,7 +134,7 @@ def checked_calls():
 
 def example_calls(text):
     """The calls in a source's examples: the line, the type before the name, the name, and how many
-    arguments there are; None where they aren't all shown."""
+    arguments there are; None if they aren't all shown."""
     for example in EXAMPLE.finditer(text):
         lines = [re.sub(r"^ *(///|//!) ?", "", line) for line in example[1].splitlines()]
         code = "\n".join(re.sub(r"(^|\s)//.*", "", TEXT.sub('""', line)) for line in lines)

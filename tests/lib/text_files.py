@@ -58,7 +58,7 @@ def checked_by_black():
 
 
 def black_year():
-    """The year of the installed black's release, without its century; 0 where none is installed."""
+    """The year of the installed black's release, without its century; 0 if none is installed."""
     if not shutil.which("black"):
         return 0
     said = subprocess.run(["black", "--version"], capture_output=True, text=True).stdout

@@ -86,7 +86,7 @@ def stop(why):
 
 
 def load():
-    """Loads rt's own code. Ends the program with a sentence where it lacks something."""
+    """Loads rt's own code. Ends the program with a sentence if it lacks something."""
     path = shutil.which("rt")
     if not path:
         stop("the Rattle toolchain's command rt is not on PATH")

@@ -164,7 +164,7 @@ class Run:
         self.parts = ()
 
     def value(self):
-        """The value that the run ends with, None where it ends with a division by zero."""
+        """The value that the run ends with, None if it ends with a division by zero."""
         pc = 0
         for _ in self.difo.code:
             it = self.difo.code[pc]
@@ -195,7 +195,7 @@ class Run:
             self.compare(it)
 
     def compute(self, it):
-        """What an instruction writes to a register, None where it writes to none."""
+        """What an instruction writes to a register, None if it writes to none."""
         if it.name in OPERATORS:
             return OPERATORS[it.name](self.registers[it.a], self.registers[it.b])
         if it.name == "not":
@@ -211,7 +211,7 @@ class Run:
         return self.load(it)
 
     def load(self, it):
-        """What an instruction loads from the firing or a variable, None where it loads nothing."""
+        """What an instruction loads from the firing or a variable, None if it loads nothing."""
         if it.name == "ldgs":
             return self.firing[BUILT_INS[it.number]]
         if it.name == "ldga":

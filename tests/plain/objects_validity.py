@@ -35,10 +35,10 @@ WRITTEN = {name: "n" for name in (*OPERATORS, "not", "setx", "ldga")} | {"sets":
 class Known(NamedTuple):
     """What is known before an instruction, whichever way led there."""
 
-    # of each register its kind, None where it is unset
+    # of each register its kind, None if it is unset
     registers: tuple
     is_compared: bool
-    # the kinds of the tuple, None where they aren't known
+    # the kinds of the tuple, None if they aren't known
     parts: str
 
 
@@ -148,7 +148,7 @@ class Validity:
         self.known = {0: START}
 
     def before(self, pc):
-        """What is known before a place, None where no way leads there."""
+        """What is known before a place, None if no way leads there."""
         if pc not in self.known:
             ways = [
                 after(self.difo.code[place], self.before(place))
@@ -175,7 +175,7 @@ class Validity:
 
 
 def first_fault(difo):
-    """The first fault of an object and its place, None where it is valid."""
+    """The first fault of an object and its place, None if it is valid."""
     if not difo.code:
         return "Empty", None
     if difo.code[-1].name != "ret":

@@ -195,7 +195,7 @@ def members(value, names):
 
 
 def buckets_of(function, value):
-    """The buckets that an entry's value is of; none where it is no histogram."""
+    """The buckets that an entry's value is of; none if it is no histogram."""
     if function == "quantize":
         return Powers()
     if function != "lquantize":

@@ -90,7 +90,7 @@ def sortable(keys):
 
 def on_scale(entries, function, args, most):
     """Entries of one number as key as bars on a scale: a label and a value for each place. If
-    values can't be joined, as averages, or aren't all there, gaps have a mark; none where there are
+    values can't be joined, as averages, or aren't all there, gaps have a mark; none if there are
     too many.
     """
     values = {keys[0]: value for keys, value in entries}

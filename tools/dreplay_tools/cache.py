@@ -47,7 +47,7 @@ class Place:
         self.trace, self.note = (os.path.join(where, f"{key}.{it}") for it in ("csv", "json"))
 
     def find(self):
-        """What the converter said when it made the trace, and its status; none where there is no
+        """What the converter said when it made the trace, and its status; none if there is no
         trace.
         """
         try:

@@ -38,7 +38,7 @@ DECODER = json.JSONDecoder(parse_int=whole, parse_float=decimal, parse_constant=
 
 def events_in(file):
     """The list of events that a file holds: alone, or as a member of an object. The end of a list
-    may be missing, as where a program was ended.
+    may be missing, as of a program that was ended.
     """
     data = file.read(MAX_BYTES + 1)
     if len(data) > MAX_BYTES:
@@ -74,7 +74,7 @@ class Threads:
 
     @staticmethod
     def name(names, process, thread):
-        """The name of a thread's process, or of the thread where that has none."""
+        """The name of a thread's process, or of the thread if that has none."""
         return names.get((process,)) or names.get((process, thread))
 
     def take(self, event, process, thread):

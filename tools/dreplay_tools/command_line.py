@@ -51,7 +51,7 @@ class CommandLine(argparse.ArgumentParser):
 
 
 def after_title(doc):
-    """A doc without its first paragraph; nothing where Python drops docs (-OO)."""
+    """A doc without its first paragraph; nothing if Python drops docs (-OO)."""
     return (doc or "").partition("\n\n")[2]
 
 

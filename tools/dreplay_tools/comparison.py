@@ -14,7 +14,7 @@ NEW, GONE = "new", "gone"
 
 @dataclass
 class Change:
-    """An entry of two answers: its key, and what is shown of it in each; none where it isn't."""
+    """An entry of two answers: its key, and what is shown of it in each; none if it isn't."""
 
     key: list
     before: object
@@ -42,17 +42,17 @@ class Compared:
         return self.aggregation.title
 
     def difference(self, change):
-        """By how much a number rose; none where an answer without it says nothing of it."""
+        """By how much a number rose; none if an answer without it says nothing of it."""
         before, after = self.number(change.before), self.number(change.after)
         return None if None in (before, after) else after - before
 
     def number(self, value):
-        """What is counted or added up is 0 where there is no entry."""
+        """What is counted or added up is 0 if there is no entry."""
         return 0 if value is None and self.aggregation.function in SHARED else value
 
     @staticmethod
     def quotient(change):
-        """What a number is now for each one that it was; none where that can't be said."""
+        """How many times as large a number is now; none if that can't be said."""
         if not change.before or change.after is None:
             return None
         return change.after / change.before
@@ -76,7 +76,7 @@ def compare(before, after):
 
 
 def change_of(before, after, buckets):
-    """What entries are ordered by: how much the number changed that entries of one answer are."""
+    """By how much the number changed that entries of one answer are ordered by."""
     ranks = [0 if held is None else rank(held, buckets) for held in (before, after)]
     return abs(ranks[1] - ranks[0])
 

@@ -12,7 +12,7 @@ from . import labels, percentiles
 from .comparison import Compared, count_of
 from .ends import FAILED, Failure
 
-HOLDS = 5  # the exit status where the condition is true
+HOLDS = 5  # the exit status if the condition is true
 LEAST, GREATEST = -(2**63), 2**63 - 1
 OF_ENTRIES = ("value", "before", "after", "difference", "ratio")  # each entry has one
 OF_ALL = ("entries", "total", "new", "gone")
@@ -75,7 +75,7 @@ def comparison(text):
 
 
 def reasons(condition, all_shown, titles):
-    """Why a condition is true, a line for each comparison; nothing where it isn't."""
+    """Why a condition is true, a line for each comparison; nothing if it isn't."""
     for part in condition:
         found = [reason(of, all_shown, titles) for of in part]
         if all(found):
@@ -84,7 +84,7 @@ def reasons(condition, all_shown, titles):
 
 
 def reason(of, all_shown, titles):
-    """Why a comparison is true; nothing where it isn't."""
+    """Why a comparison is true; nothing if it isn't."""
     title = of.title or (titles[0] if len(titles) == 1 else None)
     if title is None:
         known = ", ".join(titles[:8])

@@ -118,7 +118,7 @@ def number(shown):
 
 def run_babeltrace(folder):
     """What babeltrace2 prints of a folder, as a file, and how many events it says were lost, for
-    each gap; none where it doesn't know.
+    each gap; none if it doesn't know.
     """
     if not shutil.which("babeltrace2"):
         raise Failure(

@@ -26,7 +26,7 @@ OF_A_PROCESS = re.compile(r"pid(?:\d+|\$\w+)((?::[^:]*){3})")
 
 
 def translate(text):
-    """The description that a trace has for one of another tool; none where that isn't known."""
+    """The description that a trace has for one of another tool; none if that isn't known."""
     if len(text) > MAX_LETTERS:
         return None
     kind, _, rest = text.partition(":")
@@ -53,6 +53,6 @@ def of_tracepoint(group, event):
 
 
 def advice(text):
-    """What to write for a description of another tool; none where it is none."""
+    """What to write for a description of another tool; none if it is none."""
     found = translate(text)
     return f"`{text}` is written `{found}`" if found else None

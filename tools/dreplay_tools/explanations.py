@@ -81,7 +81,7 @@ def place_in_script(refusal, place, data):
 
 
 def refused_token(refusal, place, data):
-    """The refused token, whose place among all it notes; none where that can't be told."""
+    """The refused token, whose place among all it notes; none if that can't be told."""
     if len(data) > MAX_BYTES or guesses.of_encoding(data):
         return None
     all_tokens = tokens(decode(data))
@@ -119,7 +119,7 @@ def with_mark(script_lines, at, number, token):
 
 def fields_of(trace, row):
     """A row and the one before it, each with the line it begins on, and whether it is the last;
-    none where there is no such row.
+    none if there is no such row.
     """
     start = max(0, row - 2)
     rows = list(itertools.islice(guesses.records(trace), start, row + 1))

@@ -35,7 +35,7 @@ INNERMOST = re.compile(r"[(\[{][^()\[\]{}]*[)\]}]")
 SPECIAL = strace.BIRTHS | set(strace.PROGRAMS)
 COMMAS = ["," * (ARGS - max(count, 1)) for count in range(ARGS + 1)]
 NOTHING_BEGUN = [(None, "", 0)], 0, False  # where its row is, and whether it may end an earlier one
-NANOSECONDS = {6: "000", 9: ""}  # what follows a fraction of so many digits
+NANOSECONDS = {6: "000", 9: ""}  # what follows a fraction, by the number of its digits
 
 
 class Arguments(dict):
@@ -85,7 +85,7 @@ class Lists(dict):
 
 
 class Returned(dict):
-    """What calls returned, as columns, by their result and error; none where the error has no
+    """What calls returned, as columns, by their result and error; none if the error has no
     known number.
     """
 
@@ -129,7 +129,7 @@ class Reader:
         return self.items, self.undated, self.symbols, self.first_symbol
 
     def item(self, found, thread, seconds, fraction, name, resumed, shown, result, *rest):
-        """A line as it is read; none where it isn't, and IN_RUN where it is one of a run."""
+        """A line as it is read; none if it isn't, and IN_RUN if it is one of a run."""
         error, took, took_fraction, unfinished, _ = rest
         zeros = NANOSECONDS.get(len(fraction)) if fraction else None
         if zeros is None or name in SPECIAL or resumed in SPECIAL:
@@ -159,7 +159,7 @@ class Reader:
         return self.IN_RUN
 
     def whole(self, thread, name, shown, values, time, took):
-        """A call on one line; none where its line has to be read otherwise."""
+        """A call on one line; none if its line has to be read otherwise."""
         back = time if took is None else time + took
         if time < 0 or back > MAX_TIME or " resumed>" in shown:  # another line begins in it
             return None
@@ -182,7 +182,7 @@ class Reader:
         return line
 
     def begin(self, thread, name, shown, time):
-        """A call that begins; none where its line has to be read otherwise."""
+        """A call that begins; none if its line has to be read otherwise."""
         if name is None or not 0 <= time <= MAX_TIME:
             return None
         shown = shown[:-1] if shown.endswith(" ") else shown

@@ -41,7 +41,7 @@ class Powers(NamedTuple):
         return -HIGHEST_POWER - 1, HIGHEST_POWER + 1
 
     def place(self, label):
-        """The place of a label; none where it is none of these buckets."""
+        """The place of a label; none if it is none of these buckets."""
         size = abs(label)
         if size & (size - 1) or size > 2**HIGHEST_POWER:
             return None
@@ -78,7 +78,7 @@ class Steps(NamedTuple):
         return 0, self.levels + 1
 
     def place(self, label):
-        """The place of a label; none where it is none of these buckets."""
+        """The place of a label; none if it is none of these buckets."""
         if label == self.lower - 1:
             return 0
         steps, rest = divmod(label - self.lower, self.step)

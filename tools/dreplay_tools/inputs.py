@@ -19,7 +19,7 @@ def fail_damaged(shown):
 
 
 def decompress(file, shown):
-    """A reader of what a compressed file holds, or none where it isn't compressed."""
+    """A reader of what a compressed file holds, or none if it isn't compressed."""
     begins = file.peek(6)[:6]
     if begins.startswith(GZIP):
         return gzip.GzipFile(fileobj=file)

@@ -126,7 +126,7 @@ class Near:
         self.token = tokens[at]
 
     def text(self, offset):
-        """The text of the token `offset` places further on; empty where there is none."""
+        """The text of the token `offset` places further on; empty if there is none."""
         at = self.at + offset
         return self.tokens[at].text if 0 <= at < len(self.tokens) else ""
 

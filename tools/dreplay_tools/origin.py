@@ -63,7 +63,7 @@ def date(seconds):
 
 
 def span(traces):
-    """From when to when traces are; nothing where that isn't known."""
+    """From when to when traces are; nothing if that isn't known."""
     times = [moment for path in traces for moment in ends(path)]
     if not times:
         return ""

@@ -38,7 +38,7 @@ def share(percent):
 
 def percentile(rows, percent):
     """The bucket that a percentile is in: the first one with which at least that part of all values
-    is counted. None where there are no values.
+    is counted. None if there are no values.
     """
     part, whole = share(percent)
     total = sum(row.count for row in rows)

@@ -48,7 +48,7 @@ class Pieces:
         return self.between(begin, self.after_feed(last - 1) if last else None)
 
     def after_feed(self, at, last=None):
-        """The place after the first line feed from a place on, or the recording's end. None where
+        """The place after the first line feed from a place on, or the recording's end. None if
         it isn't before `last`.
         """
         while last is None or at < last:

@@ -13,7 +13,7 @@ ESCAPES = re.compile(r'\\[^abtnvfr"\'?\\]')
 
 
 def refused_token(refusal, line, tokens):
-    """The place of the token that is refused on a line; none where that can't be told."""
+    """The place of the token that is refused on a line; none if that can't be told."""
     if refusal.kind == "Lex":
         return next(
             (at for at, token in enumerate(tokens) if token.line >= line and is_faulty(token)), None

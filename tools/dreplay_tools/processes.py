@@ -70,7 +70,7 @@ class Processes:
         self.heads.pop(born, None)
 
     def parent(self, thread):
-        """The process that made a thread's process; 0 where the recording doesn't tell."""
+        """The process that made a thread's process; 0 if the recording doesn't tell."""
         return self.parents.get(self.process_of.get(thread, thread), "0")
 
 

@@ -475,7 +475,7 @@ def line_of(group, refusal):
 
 
 def find(line):
-    """The refusal that a line tells, with its place as numbers: line, row, column. None where it is
+    """The refusal that a line tells, with its place as numbers: line, row, column. None if it is
     no such line.
     """
     for group in GROUPS:

@@ -118,7 +118,7 @@ def of_bytes(data):
 
 
 def group_end(some, place):
-    """The place after the brackets that open at a place; the end where they aren't closed."""
+    """The place after the brackets that open at a place; the end if they aren't closed."""
     depth = 0
     for at in range(place, len(some)):
         if some[at].text in OPENS:
@@ -142,7 +142,7 @@ def parts(some):
 
 
 def target_end(some, place=0):
-    """The place after a variable that begins at a place; the place itself where none does."""
+    """The place after a variable that begins at a place; the place itself if none does."""
     texts = [token.text for token in some[place : place + 4]]
     if len(texts) < 3 or texts[0] not in ("self", "this") or texts[1] != "->":
         return place
@@ -168,7 +168,7 @@ def expression_end(some, place):
 
 
 def is_text(some, known):
-    """Whether an expression is a text; none where that isn't known, as it is one of variables that
+    """Whether an expression is a text; none if that isn't known, as it is one of variables that
     aren't known.
     """
     while True:
@@ -191,7 +191,7 @@ def is_text(some, known):
 
 
 def question(some):
-    """The place after the question mark of a condition, outside of brackets; none where there is
+    """The place after the question mark of a condition, outside of brackets; none if there is
     none.
     """
     depth = 0

@@ -67,7 +67,7 @@ def nanoseconds(seconds, fraction):
 
 
 def integer(found):
-    """The integer that NUMBER found, as a signed one of 64 bits; none where it takes more."""
+    """The integer that NUMBER found, as a signed one of 64 bits; none if it takes more."""
     sign, hexadecimal, octal, decimal = found.groups()[-4:]
     value = int(hexadecimal, 16) if hexadecimal else int(octal, 8) if octal else int(decimal)
     return to_signed(-value if sign else value)
@@ -114,8 +114,8 @@ def unescape(found):
 class Call:
     """A system call: its name, what strace shows after it, and its arguments.
 
-    `result` is none where it doesn't return, `error` the kernel's number where it failed, and
-    `took` none where strace doesn't tell; `whole` is false where what is shown was cut off.
+    `result` is none if it doesn't return, `error` the kernel's number if it failed, and
+    `took` none if strace doesn't tell; `whole` is false if what is shown was cut off.
     """
 
     __slots__ = ("name", "shown", "args", "result", "error", "born", "took", "whole")

@@ -52,7 +52,7 @@ KINDS = {
 
 
 def kind_of_start(begins):
-    """What a file is by its first bytes; none where its lines have to tell."""
+    """What a file is by its first bytes; none if its lines have to tell."""
     if begins.startswith(HEADER[:30].encode()):
         return "trace"
     if begins.startswith((b"PERFILE2", b"PERFFILE")):

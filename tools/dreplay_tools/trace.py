@@ -33,7 +33,7 @@ def field(shown):
 
 
 def to_signed(value):
-    """An integer as a signed one of 64 bits; none where it takes more."""
+    """An integer as a signed one of 64 bits; none if it takes more."""
     if not -(2**63) <= value < 2**64:
         return None
     return value - 2**64 if value >= 2**63 else value

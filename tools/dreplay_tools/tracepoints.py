@@ -49,7 +49,7 @@ class Probe:
 
 @dataclass
 class Lost:
-    """So many events that the recorder has lost; none where it doesn't say how many."""
+    """How many events the recorder has lost; none if it doesn't say how many."""
 
     count: int = None
 

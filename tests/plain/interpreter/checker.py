@@ -102,7 +102,7 @@ def constant(expression):
 
 
 def linear_range(bounds):
-    """The range that bounds and perhaps a step spell, or None where they spell none."""
+    """The range that bounds and perhaps a step spell, or None if they spell none."""
     numbers = [constant(bound) for bound in bounds]
     if None in numbers:
         return None

@@ -40,7 +40,7 @@ class Conversion(NamedTuple):
 
 @lru_cache(maxsize=None)
 def pieces(text):
-    """The pieces that a format spells, bytes and conversions, or None where it spells none."""
+    """The pieces that a format spells, bytes and conversions, or None if it spells none."""
     found, at = [], 0
     while at < len(text):
         piece = PIECE.match(text, at)
@@ -56,7 +56,7 @@ def pieces(text):
 
 
 def conversion(flags, width, letter):
-    """A conversion, or None where it is too wide."""
+    """A conversion, or None if it is too wide."""
     if width and (len(width) > 3 or int(width) > MAX_WIDTH):
         return None
     return Conversion(letter.decode(), int(width or 0), b"-" in flags, b"0" in flags)

@@ -29,7 +29,7 @@ class Place(Expression):
     """What can be read or assigned: a plain word (space ""), or a variable of space "self" or
     "this".
 
-    `keys` is None where there are no brackets."""
+    `keys` is None if there are no brackets."""
 
     line: int
     space: str
@@ -107,7 +107,7 @@ class Aggregation:
 
 @dataclass
 class Declaration:
-    """`keys` are the types between brackets, None where there are no brackets."""
+    """`keys` are the types between brackets, None if there are no brackets."""
 
     line: int
     space: str
@@ -118,7 +118,7 @@ class Declaration:
 
 @dataclass
 class Clause:
-    """A description is four patterns; `predicate` is None where there is none."""
+    """A description is four patterns; `predicate` is None if there is none."""
 
     descriptions: list
     predicate: Expression

@@ -87,7 +87,7 @@ def operate(operator, left, left_type, right, right_type):
 
 
 def compare(operator, left, left_type, right, right_type):
-    """1 where a comparison of two integers or two texts holds, else 0."""
+    """1 if a comparison of two integers or two texts holds, else 0."""
     if left_type is not TEXT:
         to = common(left_type, right_type)
         left, right = to.wrap(left), to.wrap(right)
