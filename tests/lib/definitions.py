@@ -190,5 +190,5 @@ def lines_in_code(place):
 
 
 def count(found):
-    """How many lines some definitions have, and how many they are."""
+    """How many lines some definitions have, and how many definitions there are."""
     return sum(len(it.lines) for it in found), len(found)

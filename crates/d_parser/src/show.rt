@@ -1,5 +1,5 @@
-//! Trees as text, for tests and for people: each operation in parentheses of its own, a part of the
-//! script a line.
+//! Trees as text, for tests and for people: each operation has parentheses of its own, and each part
+//! of the script a line of its own.
 
 use crate::tree::{
     Clause, Constant, Declaration, Description, Expr, Item, Script, Stmt, Target, Variable,

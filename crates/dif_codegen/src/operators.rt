@@ -89,7 +89,7 @@ pub(crate) fn condition_of(op: ComparisonOperator, signed: bool) -> Condition
     }
 }
 
-/// The variable of the tables.
+/// The variable, as the machine names it.
 pub(crate) fn var_of(x: Variable) -> Var
     ensures { result ≡ var_of x }
 {

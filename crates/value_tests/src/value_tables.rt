@@ -85,7 +85,7 @@ const LOCALS: [(Var, ValueRef<'static>, [u64; 3]); 7] = [
     (COUNT, ValueRef::Int(6), [6, 1000, u64::MAX]),
 ];
 
-// Sets a variable, and says whether that is read then.
+// Sets a variable, and says whether all variables then read as they have to.
 fn set_local(
     locals: &mut ClauseLocals,
     var: Var,
@@ -140,7 +140,8 @@ const OWN: [(Var, bool, ValueRef<'static>, [u64; 6]); 9] = [
     (NAME, false, ValueRef::Text(b"z"), [0, 7, 1001, 1000, 0, 9]),
 ];
 
-// Sets a variable of the second key, or of the first, and says whether that is read then.
+// Sets a variable at the second key, or at the first, and says whether all then read as they
+// have to.
 fn set_own(
     table: &mut ThreadTable,
     keys: [&Key; 2],

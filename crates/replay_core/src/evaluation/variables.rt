@@ -17,7 +17,7 @@ use d_types::{Answer, Space, Variable, kind_of};
 use d_values::{Key, Kind, OutOfZero, Text, Value, Var};
 use std::alloc::Global;
 
-// Its name in the tables.
+// The variable, as the tables name it.
 fn var_of(x: Variable) -> Var
     ensures { result ≡ var_of x }
 {
