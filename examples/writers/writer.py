@@ -15,7 +15,7 @@ class Trace:
     def __init__(self, path, execname):
         self.file = open(path, "w", encoding="utf-8", newline="\n")  # no carriage returns
         self.lock, self.number = threading.Lock(), 0
-        self.process = f"{os.getpid()},{quoted(execname)}"
+        self.process = f"{os.getpid()},{quote(execname)}"
         self.file.write(HEADER + "\n")
 
     def fire(self, module, function, name, *args):
@@ -28,7 +28,7 @@ class Trace:
             self.file.write(f"{where},app,{module},{function},{name},{values}{empty}\n")
 
 
-def quoted(text):
+def quote(text):
     return '"' + text.replace('"', '""') + '"' if any(mark in text for mark in ',"\n\r') else text
 
 

@@ -169,7 +169,7 @@ def all_programs_of(args, tally):
     chosen = args.program or [], args.data_program or []
     if not any(chosen):
         chosen = PROGRAMS, DATA_PROGRAMS
-    return [tally.built([os.path.abspath(path) for path in paths]) for paths in chosen]
+    return [tally.find_built([os.path.abspath(path) for path in paths]) for paths in chosen]
 
 
 def add_program(made, what):
@@ -227,7 +227,7 @@ def all_programs_and_names(doc, tally):
     chosen = args.program or [], args.data_program or [], args.rows_program or []
     if not any(chosen):
         chosen = PROGRAMS, DATA_PROGRAMS, ROWS_PROGRAMS
-    built = [tally.built([os.path.abspath(path) for path in paths]) for paths in chosen]
+    built = [tally.find_built([os.path.abspath(path) for path in paths]) for paths in chosen]
     return *built, args.names
 
 
@@ -237,7 +237,7 @@ class Tally:
     def __init__(self):
         self.passed = self.failed = 0
 
-    def built(self, programs):
+    def find_built(self, programs):
         """The programs that are there to be run. One that was not built counts as a failure."""
         for program in programs:
             if not os.access(program, os.X_OK):
