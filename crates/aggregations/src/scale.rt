@@ -46,7 +46,7 @@ impl Scale {
         }
     }
 
-    // The bucket that the number is in, and no other.
+    /// The bucket that the number is in, and no other.
     pub(crate) fn bucket_of(self, x: i64) -> u32
         ensures within { result < spec.buckets self }
         ensures only { (b : ℕ) → b < spec.buckets self → spec.is_in self b x ≡ (b == result) }

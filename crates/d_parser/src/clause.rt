@@ -31,7 +31,7 @@ fn description(alloc: Global, tokens: &[Token]) -> Result<(Description, &[Token]
     }
 }
 
-/// Adds a description at the end.
+// Adds a description at the end.
 fn put(all: &mut Vec<Description>, next: Description) -> Result<(), AllocError>
     ensures ok { IfOk result (λ _. all.new.items ≡ all.old.items ++ next ∷ []) }
 {
@@ -39,7 +39,7 @@ fn put(all: &mut Vec<Description>, next: Description) -> Result<(), AllocError>
     Ok(())
 }
 
-/// The descriptions after commas.
+// The descriptions after commas.
 #[cycle(descriptions)]
 #[tactic(auto, using(crate::proofs::Steps::descriptions))]
 fn descriptions_tail<'a>(
@@ -130,7 +130,7 @@ pub(crate) fn clause(
     })
 }
 
-/// The statements in braces.
+// The statements in braces.
 fn block(alloc: Global, fuel: usize, tokens: &[Token]) -> Result<(Vec<Stmt>, &[Token]), ParseFault>
     ensures { Gives (λ x. (stmts_of x.0.items, x.1.now)) result (spec.block fuel tokens.now) }
 {

@@ -11,7 +11,7 @@ use crate::words::{split_run, type_length, type_of};
 use d_lexer::{ByteString, Mark, Token, TokenKind};
 use std::alloc::Global;
 
-/// The type that the words at the front spell.
+// The type that the words at the front spell.
 #[tactic(auto, unfolding(crate::specs::Steps::ReadingScripts::declared_type))]
 fn declared_type(tokens: &[Token]) -> Result<(DeclaredType, &[Token]), ParseFault>
     ensures { Gives (λ x. (x.0, x.1.now)) result (spec.declared_type tokens.now) }
@@ -23,7 +23,7 @@ fn declared_type(tokens: &[Token]) -> Result<(DeclaredType, &[Token]), ParseFaul
     }
 }
 
-/// The types after commas, and the closing bracket.
+// The types after commas, and the closing bracket.
 #[cycle(types)]
 #[tactic(auto, using(crate::proofs::Steps::types_step, crate::proofs::Steps::types_none))]
 fn types_tail(
@@ -59,7 +59,7 @@ fn types_tail_on(
     types_tail(turns, all, rest)
 }
 
-/// Types in brackets, or nothing.
+// Types in brackets, or nothing.
 #[tactic(auto, unfolding(crate::specs::Steps::ReadingScripts::key_types))]
 fn key_types(
     alloc: Global,
@@ -88,7 +88,7 @@ fn word_of(alloc: Global, token: &Token) -> Result<ByteString, ParseFault>
     Ok(word)
 }
 
-/// The tokens from the first that can't follow, if these words aren't a type and a name.
+// The tokens from the first that can't follow, if these words aren't a type and a name.
 fn rest_without_name<'a>(words: &[Token], tokens: &'a [Token]) -> &'a [Token] {
     let count = type_length(words);
     if count == 0 || count == words.len() {
@@ -98,7 +98,7 @@ fn rest_without_name<'a>(words: &[Token], tokens: &'a [Token]) -> &'a [Token] {
     }
 }
 
-/// A type and a word.
+// A type and a word.
 #[tactic(auto, unfolding(crate::specs::Steps::ReadingScripts::typed_name))]
 fn typed_name(
     alloc: Global,

@@ -25,7 +25,7 @@ fn after_colon(bytes: &[u8]) -> Option<&[u8]>
     None
 }
 
-/// The bytes before the first colon, and those after it if there is one.
+// The bytes before the first colon, and those after it if there is one.
 #[tactic(auto, using(crate::proofs::Cuts::fields))]
 fn cut(bytes: &[u8]) -> (&[u8], Option<&[u8]>)
     ensures field { result.0.now ≡ steps.before_colon bytes.now }

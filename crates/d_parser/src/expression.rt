@@ -20,7 +20,7 @@ use crate::words::{WordKind, word_kind};
 use d_lexer::{ByteString, Mark, Token, TokenKind};
 use std::alloc::Global;
 
-/// Expressions separated by commas, and the mark that closes them.
+// Expressions separated by commas, and the mark that closes them.
 #[cycle(expression)]
 #[tactic(auto, unfolding(crate::specs::Steps::Reading::closed_list))]
 fn closed_list<'a>(
@@ -90,7 +90,7 @@ fn with_keys<'a>(
     Ok((build::target(variable, keys), rest))
 }
 
-/// A target, by its first word.
+// A target, by its first word.
 #[cycle(expression)]
 #[tactic(auto, unfolding(crate::specs::Steps::Reading::target))]
 fn target<'a>(
@@ -108,7 +108,7 @@ fn target<'a>(
     with_keys(alloc, fuel, variable, rest)
 }
 
-/// What follows a target: `++`, `--`, an assignment, or nothing.
+// What follows a target: `++`, `--`, an assignment, or nothing.
 #[cycle(expression)]
 #[inline(never)]
 #[tactic(auto, unfolding(crate::specs::Steps::Reading::target_tail))]
@@ -137,7 +137,7 @@ fn target_tail<'a>(
     }
 }
 
-/// A call, or what a target begins.
+// A call, or what a target begins.
 #[cycle(expression)]
 #[inline(never)]
 #[tactic(auto, unfolding(crate::specs::Steps::Reading::post_at_name))]
@@ -188,7 +188,7 @@ fn cast<'a>(
     Ok((whole, rest))
 }
 
-/// A cast or an expression, after the opening parenthesis.
+// A cast or an expression, after the opening parenthesis.
 #[cycle(expression)]
 #[inline(never)]
 #[tactic(auto, unfolding(crate::specs::Steps::Reading::unary_in_parentheses))]
@@ -208,7 +208,7 @@ fn unary_in_parentheses<'a>(
     followed(Mark::CloseParenthesis, inner, rest)
 }
 
-/// An expression that a mark has to follow, and the tokens after the mark.
+// An expression that a mark has to follow, and the tokens after the mark.
 fn followed(mark: Mark, inner: Expr, tokens: &[Token]) -> Result<(Expr, &[Token]), ParseFault>
     ensures { Gives (λ x. (tree_of x.0, x.1.now)) result
         (steps.followed mark (tree_of inner) tokens.now) }
@@ -216,7 +216,7 @@ fn followed(mark: Mark, inner: Expr, tokens: &[Token]) -> Result<(Expr, &[Token]
     after_mark(mark, tokens).map(|rest| (inner, rest))
 }
 
-/// The target after `++` or `--`.
+// The target after `++` or `--`.
 #[cycle(expression)]
 #[tactic(auto, unfolding(crate::specs::Steps::Reading::unary_at_step))]
 fn unary_at_step<'a>(
@@ -242,7 +242,7 @@ fn unary_at_step<'a>(
     }
 }
 
-/// A unary expression, after the mark that begins it.
+// A unary expression, after the mark that begins it.
 #[cycle(expression)]
 #[inline(never)]
 #[tactic(auto, unfolding(crate::specs::Steps::Reading::unary_at_mark))]
@@ -270,7 +270,7 @@ fn unary_at_mark<'a>(
     }
 }
 
-/// A unary expression or, if the level allows it, an assignment.
+// A unary expression or, if the level allows it, an assignment.
 #[cycle(expression)]
 #[tactic(auto, unfolding(crate::specs::Steps::Reading::unary))]
 fn unary<'a>(
@@ -302,7 +302,7 @@ fn unary<'a>(
     }
 }
 
-/// The left operand, joined by the operators of this level or above to what follows it.
+// The left operand, joined by the operators of this level or above to what follows it.
 #[cycle(expression)]
 #[tactic(auto, using(crate::proofs::Steps::binary_tail))]
 fn binary_tail<'a>(
@@ -349,7 +349,7 @@ fn binary_tail_on<'a>(
     }
 }
 
-/// A condition goes on with a question mark.
+// A condition goes on with a question mark.
 #[cycle(expression)]
 #[inline(never)]
 #[tactic(auto, unfolding(crate::specs::Steps::Reading::cond_tail))]
@@ -377,7 +377,7 @@ fn cond_tail<'a>(
     }
 }
 
-/// The two expressions after the question mark.
+// The two expressions after the question mark.
 #[cycle(expression)]
 #[inline(never)]
 #[tactic(auto, unfolding(crate::specs::Steps::Reading::alternatives))]
@@ -429,7 +429,7 @@ fn expr_on<'a>(
     cond_tail(alloc, fuel, level, joined, rest)
 }
 
-/// The expressions after a comma.
+// The expressions after a comma.
 #[cycle(expression)]
 #[tactic(auto, using(crate::proofs::Steps::exprs_tail_step, crate::proofs::Steps::exprs_tail_none))]
 fn exprs_tail<'a>(

@@ -48,7 +48,7 @@ pub(crate) fn after_mark(mark: Mark, tokens: &[Token]) -> Result<&[Token], Parse
     }
 }
 
-/// A word that isn't reserved.
+// A word that isn't reserved.
 #[tactic(auto, unfolding(crate::specs::Steps::Reading::plain_word))]
 fn plain_word(alloc: Global, tokens: &[Token]) -> Result<(ByteString, &[Token]), ParseFault>
     ensures { Gives (λ x. (x.0, x.1.now)) result (steps.plain_word tokens.now) }
@@ -68,7 +68,7 @@ fn plain_word(alloc: Global, tokens: &[Token]) -> Result<(ByteString, &[Token]),
     }
 }
 
-/// The word after an arrow.
+// The word after an arrow.
 #[tactic(auto, unfolding(crate::specs::Steps::Reading::member))]
 fn member(alloc: Global, tokens: &[Token]) -> Result<(ByteString, &[Token]), ParseFault>
     ensures { Gives (λ x. (x.0, x.1.now)) result (steps.member tokens.now) }
@@ -135,7 +135,7 @@ pub(crate) fn is_typed(tokens: &[Token]) -> bool
     }
 }
 
-/// The tokens from the first that can't follow, if these words aren't an integer type.
+// The tokens from the first that can't follow, if these words aren't an integer type.
 fn rest_without_cast<'a>(words: &[Token], tokens: &'a [Token]) -> &'a [Token] {
     match words {
         [first, ..] if matches!(kind_of(first), WordKind::Text) => tokens,

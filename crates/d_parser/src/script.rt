@@ -14,7 +14,7 @@ use crate::words::{WordKind, word_kind};
 use d_lexer::{ByteString, MAX_BYTES, Token, TokenKind};
 use std::alloc::Global;
 
-/// What `self` or `this` declares.
+// What `self` or `this` declares.
 fn declaration<'a>(
     alloc: Global,
     fuel: usize,

@@ -1,5 +1,5 @@
-//! Trees as text, for tests and for people: each operation has parentheses of its own, and each part
-//! of the script a line of its own.
+//! Trees as text, for tests and for people: each operation has parentheses of its own, and each
+//! part of the script a line of its own.
 
 use crate::tree::{
     Clause, Constant, Declaration, Description, Expr, Item, Script, Stmt, Target, Variable,
@@ -7,7 +7,7 @@ use crate::tree::{
 use d_lexer::{ByteString, Suffix};
 use std::fmt;
 
-/// A byte string as text, each byte as the character of its number.
+// A byte string as text, each byte as the character of its number.
 #[derive(Clone, Copy)]
 struct Shown<'a>(&'a ByteString);
 
@@ -20,7 +20,7 @@ impl fmt::Display for Shown<'_> {
     }
 }
 
-/// Shows several with commas between.
+// Shows several with commas between.
 fn show_list<T: fmt::Display, W: fmt::Write>(
     all: &Vec<T>,
     f: &mut fmt::Formatter<W>,
@@ -33,7 +33,7 @@ fn show_list<T: fmt::Display, W: fmt::Write>(
     Ok(())
 }
 
-/// Shows several in brackets, or nothing if there are none.
+// Shows several in brackets, or nothing if there are none.
 fn show_keys<T: fmt::Display, W: fmt::Write>(
     keys: &Vec<T>,
     f: &mut fmt::Formatter<W>,

@@ -11,7 +11,7 @@ use crate::tree::Stmt;
 use d_lexer::{ByteString, Mark, Token, TokenKind};
 use std::alloc::Global;
 
-/// A word, reserved or not.
+// A word, reserved or not.
 #[tactic(auto, unfolding(crate::specs::Steps::ReadingScripts::any_word))]
 fn any_word(alloc: Global, tokens: &[Token]) -> Result<(ByteString, &[Token]), ParseFault>
     ensures { Gives (λ x. (x.0, x.1.now)) result (spec.any_word tokens.now) }
@@ -28,7 +28,7 @@ fn any_word(alloc: Global, tokens: &[Token]) -> Result<(ByteString, &[Token]), P
     }
 }
 
-/// The word between `=` and an opening parenthesis.
+// The word between `=` and an opening parenthesis.
 #[tactic(auto, unfolding(crate::specs::Steps::ReadingScripts::aggregating_word))]
 fn aggregating_word(alloc: Global, tokens: &[Token]) -> Result<(ByteString, &[Token]), ParseFault>
     ensures { Gives (λ x. (x.0, x.1.now)) result (spec.aggregating_word tokens.now) }
@@ -38,7 +38,7 @@ fn aggregating_word(alloc: Global, tokens: &[Token]) -> Result<(ByteString, &[To
     after_mark(Mark::OpenParenthesis, rest).map(|rest| (function, rest))
 }
 
-/// An aggregation statement, after its name.
+// An aggregation statement, after its name.
 #[tactic(auto, unfolding(crate::specs::Steps::ReadingScripts::aggregation))]
 fn aggregation<'a>(
     alloc: Global,
@@ -94,7 +94,7 @@ fn statement<'a>(
     }
 }
 
-/// Adds the statement at the front, if there is one, to these.
+// Adds the statement at the front, if there is one, to these.
 #[tactic(auto, unfolding(crate::specs::Steps::ReadingScripts::optional_stmt), using(crate::proofs::Rows::stmts_push))]
 fn optional_statement<'a>(
     alloc: Global,
@@ -114,7 +114,7 @@ fn optional_statement<'a>(
     Ok((all, rest))
 }
 
-/// The statements after semicolons, and the closing brace.
+// The statements after semicolons, and the closing brace.
 #[tactic(auto, using(crate::proofs::Steps::stmts))]
 fn statements_tail<'a>(
     alloc: Global,

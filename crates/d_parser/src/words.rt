@@ -126,7 +126,7 @@ fn is_word(token: &Token) -> bool
     matches!(token.kind, TokenKind::Word(_))
 }
 
-/// The tokens after the words at the front.
+// The tokens after the words at the front.
 #[tactic(auto, unfolding(crate::specs::Steps::Words::after_run))]
 fn after_run(tokens: &[Token]) -> &[Token]
     ensures is { result.now ≡ steps.after_run tokens.now }

@@ -39,7 +39,7 @@ pub(crate) fn wholes(
     Ok(done)
 }
 
-/// `trace(value)`
+// `trace(value)`
 fn trace(
     alloc: Global,
     table: &mut Vec<Entry>,
@@ -56,7 +56,7 @@ fn trace(
     }
 }
 
-/// `exit(status)`
+// `exit(status)`
 fn exit(
     alloc: Global,
     table: &mut Vec<Entry>,
@@ -77,7 +77,7 @@ fn exit(
     Ok(TypedStmt::Exit(x))
 }
 
-/// `printf(format, arguments)`
+// `printf(format, arguments)`
 fn print_with(
     alloc: Global,
     table: &mut Vec<Entry>,
@@ -117,7 +117,7 @@ fn print(
     Err(TypeFault::PrintfArguments { line })
 }
 
-/// The bytes of a text constant.
+// The bytes of a text constant.
 fn text_of(e: &Expr) -> Option<&ByteString>
     ensures { option_map (λ b. b.now) result ≡ text_of_constant (tree_of e.now) }
 {
@@ -150,7 +150,7 @@ fn evaluate(alloc: Global, table: &mut Vec<Entry>, e: &Expr) -> Result<TypedStmt
     Ok(TypedStmt::Evaluate(x))
 }
 
-/// A call that is a whole statement.
+// A call that is a whole statement.
 #[derive(Clone, Copy)]
 struct Call<'a> {
     line: usize,

@@ -66,7 +66,7 @@ fn negative(value: Option<u64>) -> Option<i32>
     }
 }
 
-/// A bound: a constant, perhaps with one minus.
+// A bound: a constant, perhaps with one minus.
 fn bound(e: &Expr) -> Option<i32>
     ensures { result ≡ steps.bound (tree_of e.now) }
 {
@@ -132,7 +132,7 @@ fn lquantize(args: &[Expr]) -> Option<AggFn>
     }
 }
 
-/// An aggregating function with its bounds. None if they aren't in range.
+// An aggregating function with its bounds. None if they aren't in range.
 #[tactic(auto, using(crate::proofs::Bounds::lquantize_kept))]
 fn function_of(aggregating: Aggregating, args: &[Expr]) -> Option<AggFn>
     ensures { result ≡ spec.function aggregating (trees_of args.now) }
@@ -175,7 +175,7 @@ fn takes(aggregating: Aggregating, n: usize) -> bool
     }
 }
 
-/// Whether the arguments are integers, as many as the function takes.
+// Whether the arguments are integers, as many as the function takes.
 #[tactic(auto, using(crate::proofs::Rows::count_is))]
 fn arguments_fit(aggregating: Aggregating, args: &[TypedExpr]) -> bool
     ensures { result ≡ spec.arguments_fit aggregating (typeds_of args.now) }
@@ -192,14 +192,14 @@ fn is_again(function: Option<AggFn>, known: AggFn) -> bool
     }
 }
 
-/// The first argument.
+// The first argument.
 fn first(args: Vec<TypedExpr>) -> Option<TypedExpr>
     ensures { option_map typed_of result ≡ spec.first (typeds_of args.items) }
 {
     args.into_iter().next()
 }
 
-/// The index of an aggregation, and what it is.
+// The index of an aggregation, and what it is.
 fn find<'a>(aggs: &'a [TypedAggregation], name: &[u8]) -> Option<(usize, &'a TypedAggregation)>
     ensures { option_map (λ p. (p.0, agg_of p.1.now)) result
         ≡ spec.find_from 0 name.now (aggs_of aggs.now) }
@@ -212,8 +212,8 @@ fn find<'a>(aggs: &'a [TypedAggregation], name: &[u8]) -> Option<(usize, &'a Typ
     None
 }
 
-/// What a statement says of its aggregation, once the keys are typed. No function if the bounds
-/// aren't in range.
+// What a statement says of its aggregation, once the keys are typed. No function if the bounds
+// aren't in range.
 #[derive(Clone, Copy)]
 struct AggregationUse<'a> {
     line: usize,
@@ -294,7 +294,7 @@ fn new_index(
     }
 }
 
-/// The index of an aggregation. The first statement fixes its keys and its function.
+// The index of an aggregation. The first statement fixes its keys and its function.
 fn index_for(
     alloc: Global,
     aggs: &mut Vec<TypedAggregation>,

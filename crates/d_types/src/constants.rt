@@ -8,9 +8,9 @@ use d_lexer::Suffix;
 use d_parser::{DeclaredType, IntegerType};
 use d_values::{DType, IntType};
 
-/// The greatest value of `int`.
+// The greatest value of `int`.
 const INT_MAX: u64 = 2147483647;
-/// The greatest value of `long`.
+// The greatest value of `long`.
 const LONG_MAX: u64 = 9223372036854775807;
 
 fn unsuffixed_type(value: u64) -> IntType

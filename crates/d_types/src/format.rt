@@ -42,8 +42,8 @@ pub enum Place {
     Sized(Flags),
 }
 
-/// What a byte does: where the next one is, and the piece that it ends. None if the byte can't
-/// be there.
+// What a byte does: where the next one is, and the piece that it ends. None if the byte can't
+// be there.
 type Turn = Option<(Place, Option<Piece>)>;
 
 fn letter_of(byte: u8) -> Option<Letter>

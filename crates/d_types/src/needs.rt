@@ -7,7 +7,7 @@ ghost use Rattle.d_types.specs.Needs as spec;
 use crate::typed::TypedExpr;
 use d_parser::LogicOperator;
 
-/// Whether there are registers enough for keys, each of whose values is kept until all are there.
+// Whether there are registers enough for keys, each of whose values is kept until all are there.
 #[cycle(needs)]
 fn keys_fit(keys: &[TypedExpr], registers: usize) -> bool
     ensures { result ≡ nat_le (spec.need_of_keys 0 (typeds_of keys.now)) registers }
@@ -36,7 +36,7 @@ fn step_fits(keys: &[TypedExpr], registers: usize) -> bool
     keys_fit(keys, registers) && keys.len() < registers
 }
 
-/// Whether there are enough registers for the keys, and, as `value` says, for what comes after.
+// Whether there are enough registers for the keys, and, as `value` says, for what comes after.
 #[cycle(needs)]
 fn both_fit(keys: &[TypedExpr], value: bool, registers: usize) -> bool
     ensures { result ≡ nat_le (spec.need_of_keys 0 (typeds_of keys.now)) registers && value }
@@ -44,7 +44,7 @@ fn both_fit(keys: &[TypedExpr], value: bool, registers: usize) -> bool
     keys_fit(keys, registers) && value
 }
 
-/// Whether there are registers enough for a value while others are kept.
+// Whether there are registers enough for a value while others are kept.
 #[cycle(needs)]
 fn value_fits(value: &TypedExpr, waiting: usize, registers: usize) -> bool
     ensures { result ≡ nat_le (waiting + spec.need (typed_of value.now)) registers }

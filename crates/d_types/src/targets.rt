@@ -40,8 +40,8 @@ pub(crate) fn space_of(variable: &d_parser::Variable) -> Space
     }
 }
 
-// A script has at most 65,536 declarations and places of variables, so a slot always fits; this
-// isn't proved, and such a slot would be reported as out of memory.
+/// A script has at most 65,536 declarations and places of variables, so a slot always fits; this
+/// isn't proved, and such a slot would be reported as out of memory.
 pub(crate) fn variable_at(space: Space, slot: usize, holds: DType) -> Result<Variable, AllocError>
     ensures ok { IfOk result (λ v. v ≡ record { space = space; slot = slot; holds = holds }) }
 {

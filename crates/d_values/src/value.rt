@@ -67,7 +67,7 @@ impl Value {
         }
     }
 
-    // The value, unless it is blank.
+    /// The value, unless it is blank.
     pub(crate) fn kept(self) -> Option<Value>
         ensures { result ≡ value_to_keep self }
     {

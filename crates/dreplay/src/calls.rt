@@ -33,7 +33,7 @@ arg0,arg1,arg2,arg3,arg4,arg5,arg6,arg7,arg8,arg9\n\
 
 const SHOWN: &[u8] = b"\n  read                                                             90\n";
 
-// Two workers, and a group for each of two threads.
+/// Two workers, and a group for each of two threads.
 pub(crate) fn plan_for_two(engine: EngineKind) -> Plan {
     Plan {
         workers: 2,
@@ -52,7 +52,7 @@ fn has_run(replayed: &Replayed, ran: &[&[u64]]) -> bool {
             .all(|(numbers, wanted)| numbers.as_slice() == *wanted)
 }
 
-// Whether an answer is the sums, by two workers, and these firings ran in its groups.
+/// Whether an answer is the sums, by two workers, and these firings ran in its groups.
 pub(crate) fn is_shown(answer: &Result<Replayed, Refusal>, ran: &[&[u64]]) -> bool {
     match answer {
         Ok(replayed) => {

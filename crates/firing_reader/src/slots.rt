@@ -7,10 +7,10 @@ use std::hash::{BuildHasher, Hasher};
 // How many slots there are at first.
 const MIN_SLOTS: usize = 2048;
 
-// How many slots are looked at for one hash.
+/// How many slots are looked at for one hash.
 pub(crate) const NEAR: usize = 8;
 
-// No index.
+/// No index.
 pub(crate) const NOWHERE: u32 = u32::MAX;
 
 /// The index of a thing, and the upper half of its hash.

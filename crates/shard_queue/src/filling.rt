@@ -13,8 +13,8 @@ use firings::{Firings, MAX_ROWS, OwnerIndices, Trace};
 use std::alloc::{AllocError, Global};
 
 impl Groups {
-    // Groups in which each of the trace's threads has the number at its index, and thread 0 has
-    // `own`.
+    /// Groups in which each of the trace's threads has the number at its index, and thread 0 has
+    /// `own`.
     pub(crate) fn with_numbers(
         alloc: Global,
         trace: &Trace,

@@ -75,7 +75,7 @@ impl Groups {
         self.indices[group as usize].as_slice()
     }
 
-    // Notes the index of a firing of a group.
+    /// Notes the index of a firing of a group.
     pub(crate) fn add(&mut self, group: Option<u32>, index: u32) -> Result<(), AllocError>
         requires { IfSome group (λ g. g < (grouping self.old).count) }
         ensures grouping { OnOk result (grouping self.new ≡ grouping self.old) }

@@ -42,7 +42,7 @@ fn one_digit(bytes: &[u8]) -> Option<(u8, &[u8])>
     }
 }
 
-// A number from least to most that a comma ends.
+/// A number from least to most that a comma ends.
 #[inline(always)]
 pub(crate) fn whole(bytes: &[u8], least: u64, most: u64) -> Option<(u64, &[u8])>
     ensures value { IfSome result
@@ -57,7 +57,7 @@ pub(crate) fn whole(bytes: &[u8], least: u64, most: u64) -> Option<(u64, &[u8])>
     Some((number, rest))
 }
 
-// A number of at most 31 bits, from least, that a comma ends.
+/// A number of at most 31 bits, from least, that a comma ends.
 #[inline(always)]
 pub(crate) fn int(bytes: &[u8], least: u64) -> Option<(i32, &[u8])>
     ensures { IfSome result
@@ -72,7 +72,7 @@ pub(crate) fn int(bytes: &[u8], least: u64) -> Option<(i32, &[u8])>
     Some((number as i32, rest))
 }
 
-// A text that a comma ends. Of a short one in ASCII no byte needs a further look.
+/// A text that a comma ends. Of a short one in ASCII no byte needs a further look.
 pub(crate) fn text(bytes: &[u8]) -> Option<(Text, &[u8])>
     ensures { IfSome result (λ p. BeginsAs text_of bytes.now p.0 (44 ∷ p.1.now)) }
 {
@@ -116,7 +116,7 @@ fn argument(bytes: &[u8]) -> Option<(i64, &[u8])>
     Some((number as i64, rest_after(bytes, count)))
 }
 
-// An argument that a comma ends. Most are 0.
+/// An argument that a comma ends. Most are 0.
 #[inline(always)]
 pub(crate) fn next_argument(bytes: &[u8]) -> Option<(i64, &[u8])>
     ensures { IfSome result (λ p. (field : List ℕ)
@@ -130,7 +130,7 @@ pub(crate) fn next_argument(bytes: &[u8]) -> Option<(i64, &[u8])>
     Some((value, after))
 }
 
-// An argument that ends a row. The row's end is the first byte of what comes after it.
+/// An argument that ends a row. The row's end is the first byte of what comes after it.
 pub(crate) fn last_argument(bytes: &[u8]) -> Option<(i64, &[u8])>
     ensures { IfSome result (λ p. (field : List ℕ)
         × Closes bytes.now (field ∷ []) p.1.now × (signed_of field ≡ Some p.0)) }

@@ -5,7 +5,7 @@ ghost use Rattle.std.specs.Prelude.{take};
 ghost use Rattle.firing_reader.specs.Plain.{BeginsAtEnd, IsEnd};
 ghost use Rattle.firing_reader.specs.Steps.Plain.{AreFirst, IsWordByte, JoinsField};
 
-// What comes after a comma.
+/// What comes after a comma.
 pub(crate) fn after_comma(bytes: &[u8]) -> Option<&[u8]>
     ensures { IfSome result (λ rest. bytes.now ≡ 44 ∷ rest.now) }
 {
@@ -15,7 +15,7 @@ pub(crate) fn after_comma(bytes: &[u8]) -> Option<&[u8]>
     }
 }
 
-// What comes after a minus.
+/// What comes after a minus.
 pub(crate) fn after_minus(bytes: &[u8]) -> Option<&[u8]>
     ensures { IfSome result (λ rest. bytes.now ≡ 45 ∷ rest.now) }
 {
@@ -32,7 +32,7 @@ pub(crate) fn is_end(b: u8) -> bool
     b == b'\n' || b == b'\r'
 }
 
-// Whether bytes begin at the end of a row.
+/// Whether bytes begin at the end of a row.
 #[inline(always)]
 pub(crate) fn begins_at_end(bytes: &[u8]) -> bool
     ensures { result ≡ true → BeginsAtEnd bytes.now }
@@ -43,7 +43,7 @@ pub(crate) fn begins_at_end(bytes: &[u8]) -> bool
     }
 }
 
-// The row after the end of the one before, and after the empty lines between them.
+/// The row after the end of the one before, and after the empty lines between them.
 #[inline(always)]
 pub(crate) fn after_ends(bytes: &[u8]) -> Option<&[u8]>
     ensures { IfSome result
@@ -77,7 +77,7 @@ pub(crate) fn ends_at(bytes: &[u8]) -> usize
     bytes.len()
 }
 
-// What comes after the first `count` bytes.
+/// What comes after the first `count` bytes.
 pub(crate) fn rest_after(bytes: &[u8], count: usize) -> &[u8]
     requires { count ≤ length bytes.now }
     ensures { bytes.now ≡ take count bytes.now ++ result.now }
@@ -92,7 +92,7 @@ fn is_mark(b: u8) -> bool
     b == b',' || b == b'\n' || b == b'"' || b == b'\r'
 }
 
-// How many bytes come before the first mark.
+/// How many bytes come before the first mark.
 pub(crate) fn front(bytes: &[u8]) -> usize
     ensures { AreFirst JoinsField bytes.now result }
 {
@@ -111,7 +111,7 @@ fn is_word_byte(b: u8) -> bool
     b'-' <= b && b < 128
 }
 
-// How many bytes at the front are in ASCII, from the minus on.
+/// How many bytes at the front are in ASCII, from the minus on.
 pub(crate) fn word_front(bytes: &[u8]) -> usize
     ensures { AreFirst IsWordByte bytes.now result }
 {
@@ -123,7 +123,7 @@ pub(crate) fn word_front(bytes: &[u8]) -> usize
     bytes.len()
 }
 
-// Whether the first byte is a digit.
+/// Whether the first byte is a digit.
 pub(crate) fn starts_with_digit(bytes: &[u8]) -> bool
     ensures { result ≡ true →
         (first : ℕ) × (rest : List ℕ) × (bytes.now ≡ first ∷ rest) × JoinsField first }

@@ -13,9 +13,9 @@ use super::unit::end_of;
 use crate::unit_table::UnitTable;
 use firings::{OwnerEntry, ProbeEntry, Row};
 
-// The row after the end of the one before, and the bytes from its own end on. Its number has to be
-// above `last`. Its owner and its probe are added if they aren't there. They are looked for one
-// right after the other, so that the processor waits for both at once.
+/// The row after the end of the one before, and the bytes from its own end on. Its number has to be
+/// above `last`. Its owner and its probe are added if they aren't there. They are looked for one
+/// right after the other, so that the processor waits for both at once.
 #[inline(always)]
 pub(crate) fn row<'a>(
     owners: &mut UnitTable<OwnerEntry>,

@@ -21,7 +21,7 @@ use keyed_hash::HashKey;
 use std::alloc::{AllocError, Global};
 use std::hash::{BuildHasher, Hasher};
 
-// A description, the index of its clause, and that of its kind.
+/// A description, the index of its clause, and that of its kind.
 #[derive(Drop)]
 pub(crate) struct Described<'a> {
     clause: usize,
