@@ -135,7 +135,7 @@ impl Reader {
     }
 
     /// Takes the bytes of a block after the line feed that it begins with, and reads nothing yet.
-    /// If it can keep the memory of the block, the block gets other memory.
+    /// It leaves another room to the block if it can keep the block's own.
     ///
     /// ```text
     /// reader.take_block(&mut block)?; // as `take` of its bytes from 1 on, but reads later
@@ -194,7 +194,7 @@ impl Reader {
     }
 }
 
-/// Reads a trace as `read_trace` does, by all workers if its rows are plain. If no thread can
+/// Reads a trace as `read_trace` does, by all workers where its rows are plain. If no thread can
 /// be started, one worker reads what another would have read.
 ///
 /// ```text
