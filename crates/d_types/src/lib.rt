@@ -37,4 +37,4 @@ pub use typed::{
     TypedExpr, TypedStmt, Variable,
 };
 pub use typed_script::TypedScript;
-pub use variables::kind_of;
+pub use variables::{kind_of, var_of};

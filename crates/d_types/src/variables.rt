@@ -1,14 +1,14 @@
 //! The table of variables.
 
 ghost use Rattle.std.specs.Prelude.{◌≡◌, ◌<◌, [], Some, None, IfOk, map};
-ghost use Rattle.d_types.specs.{Typed.typeds_of};
+ghost use Rattle.d_types.specs.{Storage.var_of, Typed.typeds_of};
 ghost use Rattle.d_types.specs.Steps.Variables.{rows_of_entries};
 ghost use Rattle.d_types.specs.Variables as spec;
 ghost use Rattle.d_types.specs.Steps.Variables as steps;
 
-use crate::typed::{Space, TypedExpr};
+use crate::typed::{Space, TypedExpr, Variable};
 use d_lexer::ByteString;
-use d_values::{DType, Kind};
+use d_values::{DType, Kind, Var};
 use std::alloc::{AllocError, Global};
 
 /// A variable. Its keys are known before its type.
@@ -31,6 +31,20 @@ pub fn kind_of(t: DType) -> Kind
     match t {
         DType::Int(_) => Kind::Number,
         DType::Text => Kind::Text,
+    }
+}
+
+/// What tables know a variable by.
+///
+/// ```text
+/// locals.get(var_of(variable)); // what the clause-local variable holds
+/// ```
+pub fn var_of(x: Variable) -> Var
+    ensures { result ≡ var_of x }
+{
+    Var {
+        slot: x.slot,
+        kind: kind_of(x.holds),
     }
 }
 

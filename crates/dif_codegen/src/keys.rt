@@ -6,8 +6,8 @@ ghost use Rattle.dif_codegen.specs.Steps.Drafts.{Adds};
 ghost use Rattle.dif_codegen.specs.Steps.Code.{fetching, element_code, lowering, pushing, saving};
 
 use crate::draft::put;
-use crate::operators::{push_of, register, var_of};
-use d_types::{Space, TypedExpr, Variable};
+use crate::operators::{push_of, register};
+use d_types::{Space, TypedExpr, Variable, var_of};
 use dif_validate::{Difo, Instr, Reg};
 use std::alloc::AllocError;
 

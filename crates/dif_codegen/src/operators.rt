@@ -1,12 +1,10 @@
-//! Registers, operators and variables, as the machine names them.
+//! Registers and operators, as the machine names them.
 
 ghost use Rattle.std.specs.Prelude.{◌≡◌, ◌<◌};
-ghost use Rattle.d_types.specs.Storage.{var_of};
 ghost use Rattle.dif_codegen.specs.Steps.Code as spec;
 
 use d_parser::Step;
-use d_types::Variable;
-use d_values::{ArithmeticOperator, ComparisonOperator, DType, Kind, ShiftOperator, Var};
+use d_values::{ArithmeticOperator, ComparisonOperator, DType, ShiftOperator};
 use dif_validate::{Condition, Instr, Operator, Reg};
 
 /// The register of a number below 8.
@@ -87,17 +85,6 @@ pub(crate) fn condition_of(op: ComparisonOperator, signed: bool) -> Condition
             ComparisonOperator::GreaterEqual => Condition::AboveEqual,
         }
     }
-}
-
-/// The variable, as the machine names it.
-pub(crate) fn var_of(x: Variable) -> Var
-    ensures { result ≡ var_of x }
-{
-    let kind = match x.holds {
-        DType::Int(_) => Kind::Number,
-        DType::Text => Kind::Text,
-    };
-    Var { slot: x.slot, kind }
 }
 
 /// The instruction that makes a value the next part of a key.

@@ -13,19 +13,9 @@ use crate::evaluation::values::{owned_value, word_in};
 use crate::lanes::state::State;
 use crate::lanes::tables::Tables;
 use d_parser::Step;
-use d_types::{Answer, Space, Variable, kind_of};
-use d_values::{Key, Kind, OutOfZero, Text, Value, Var};
+use d_types::{Answer, Space, Variable, var_of};
+use d_values::{Key, Kind, OutOfZero, Text, Value};
 use std::alloc::Global;
-
-// The variable, as the tables name it.
-fn var_of(x: Variable) -> Var
-    ensures { result ≡ var_of x }
-{
-    Var {
-        slot: x.slot,
-        kind: kind_of(x.holds),
-    }
-}
 
 // The value as one of the kind.
 fn as_kind(alloc: Global, kind: Kind, value: Value) -> Value
