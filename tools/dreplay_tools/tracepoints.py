@@ -142,7 +142,7 @@ def place_probe(system, event, rest, args, fields):
 
 
 def fields_of(event, rest):
-    """The fields of an event by its text; of some events by the form that theirs has."""
+    """The fields of an event, from its text; some events have a form of their own."""
     rest = rest.strip()
     if event.startswith("block_") and (found := BLOCK.match(rest)):
         return block_fields(found)

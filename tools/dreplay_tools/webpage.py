@@ -277,7 +277,7 @@ def heat_table(heat):
 
 
 def heat_label(scope, label, most):
-    """The label of a row or a column; a long one is cut, and whole where one points at it."""
+    """The label of a row or a column. A long one is cut, and shown whole if one points at it."""
     shown = cut(label, most)
     whole = f' title="{escape(label)}"' * (shown != label)
     return f'<th scope="{scope}"{whole}>{escape(shown)}</th>'

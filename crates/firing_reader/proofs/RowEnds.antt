@@ -61,7 +61,7 @@ left_within s xs between = by (next_record default_config s [] [] xs) refl
     by None e = left_none s xs e
     by (Some q) e = (left_more s xs q between e).0
 
--- a line feed after a carriage return is nothing, as between any two records
+-- a line feed after a carriage return changes nothing, as between any two records
 cr_same : (xs : List ℕ) → next_record default_config st.AfterCr [] [] xs ≡ next_record default_config st.StartRecord [] [] xs
 unfolding next_record
 cr_same [] = refl

@@ -21,7 +21,7 @@ pub record HasMore (most : ℕ) (old new : Piece) : Type 0 where
 abbrev pub HasTaken : {S : Type 0} → {G : Ghosts S} → State S G → Piece → Type 0
 HasTaken state p = Contains p.taken.items state.firing.now.number
 
--- a piece has room for what a run in this state may contribute, and took the state's firing
+-- a piece has room for what a run in this state may contribute, and has taken the state's firing
 pub record CanNote {S : Type 0} {G : Ghosts S} (aggregations contributions : ℕ) (state : State S G)
     (p : Piece) : Type 0 where
   pub room : HasRoom aggregations contributions p

@@ -31,7 +31,7 @@ def key(parts):
 
 
 def histogram(aggregation, shown):
-    """The buckets that have arguments, each by its label; where lquantize has its levels too."""
+    """The buckets that have arguments, each by its label; lquantize has its levels, too."""
     buckets = [
         b"[%d,%d]" % (shown.buckets.label(bucket), count)
         for bucket, count in sorted(shown.counts.items())
