@@ -213,7 +213,7 @@ module _ (m : ScriptMeant) (grouping : Grouping) (fs : List Firing) (least : ℕ
       climbs_all [] threads r = tt
       climbs_all (f ∷ gs) threads r = over_history m f.number gs (threads_after m f threads) r
 
-  -- so if there is no number, no firing exits
+  -- so where there is no number no firing exits
   pub least_none : least ≡ no_number → exit_over m fs ≡ None
   least_none none = here (exit_over m fs) refl
     where
