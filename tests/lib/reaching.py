@@ -1,9 +1,10 @@
 """Which public functions of the crates nothing calls that a program's `main` reaches.
 
 It goes by the text. A call of a method may be one of each method with this name, as many arguments
-and a type that the calling file can have a value of; a method is reached only if its type is
-named by what is reached. So each function that it finds is unused, and one may be unused that it
-doesn't find.
+and a type that the calling file can have a value of: the file names it, or it is in the head of a
+function that the file names, or one of these types holds it. A method is reached only if its type
+is named by what is reached. So each function that it finds is unused, and one may be unused that
+it doesn't find.
 """
 import re
 from collections import defaultdict
@@ -22,6 +23,10 @@ ALIAS = re.compile(
     r"^(?:pub(?:\([^)]*\))? )?type (\w+)(?:<[^=]*>)? = (?:\w+::)*(\w+)", re.MULTILINE
 )
 TYPE = re.compile(r"^(?:pub(?:\([^)]*\))? )?(?:enum|struct) (\w+)([^{(;]*)", re.MULTILINE)
+# Where a body begins after a head without contracts.
+BODY = re.compile(r"\{$", re.MULTILINE)
+# A type that an impl gives, as what its iterator gives or what it is lent as.
+GIVEN = re.compile(r"^    type \w+ = ([^;]*);", re.MULTILINE)
 # A function that is passed on, without its arguments.
 PASSED = re.compile(r"[(,]\s*(?:(\w+)::)?(\w+)\s*(?=[,)])")
 TEST = re.compile(r"#\[(?:cfg\(test\)|test)\]\s*(?:pub )?(?:mod (\w+);)?")
@@ -46,6 +51,7 @@ class Function:
     is_public: bool
     of_trait: bool
     is_law: bool
+    head: str
     body: str
     words: set
 
@@ -76,6 +82,10 @@ def crate_of(path):
     return path.split("/")[1]
 
 
+def words_in(text):
+    return set(re.findall(r"\w+", text))
+
+
 def owner_of(head):
     """The type or trait of an `impl` or a `trait`, and whether its functions are a trait's."""
     while re.search(r"<[^<>]*>", head):
@@ -98,14 +108,15 @@ def functions_in(path):
             shut += rf"|^{head[1]}(?:\S|    ensures ).*;$"
         end = re.compile(shut, re.MULTILINE).search(text, head.end())
         whole = text[head.end() : end.end() if end else len(text)]
-        body = whole[max(whole.find(f"\n{head[1]}{{"), 0) :]
+        begin = max(whole.find(f"\n{head[1]}{{"), 0)
+        body = whole[begin:]
         before = [owner for at, owner in owners if head[1] and at < head.start()]
         owner, of_trait = before[-1] if before else ("", False)
         is_law = path.endswith("/laws.rt") or not body.strip("{} \n")
         all_given = parameters(text, head.end())
         given = [it for it in all_given if not SELF.match(it)]
         called = "".join(inside for name, inside in MACRO.findall(text) if f"{name}!(" in body)
-        words = set(re.findall(r"\w+", GHOST.sub("", whole)))
+        words = words_in(GHOST.sub("", whole))
         is_public = head[2] == "pub "
         yield Function(
             path,
@@ -116,6 +127,7 @@ def functions_in(path):
             is_public,
             of_trait,
             is_law,
+            GHOST.sub("", whole[:begin] or BODY.split(whole, 1)[0]),
             body + called,
             words,
         )
@@ -134,7 +146,7 @@ class Reaching:
         self.tests = "\n".join(read(f"{TOP}/{it}") for it in sources() if it not in paths)
         self.texts = {path: NOISE.sub("", read(f"{TOP}/{path}")) for path in paths}
         self.all = [it for path in paths for it in functions_in(path)]
-        self.named, self.fields, self.seen = defaultdict(list), {}, {}
+        self.named, self.fields, self.seen, self.held = defaultdict(list), {}, {}, {}
         self.types = defaultdict(set)
         for text in self.texts.values():
             for alias, meant in ALIAS.findall(text):
@@ -142,9 +154,12 @@ class Reaching:
         for it in self.all:
             self.named[it.name].append(it)
         for text in self.texts.values():
+            for impl in OWNER.finditer(text):
+                inside = text[impl.end() : text.find("\n}", impl.end())]
+                self.types[owner_of(impl[0])[0]] |= words_in(" ".join(GIVEN.findall(inside)))
             for found in TYPE.finditer(text):
                 inside = parts(text, found.end(), "([{ )]}") if found.end() < len(text) else []
-                self.fields[found[1]] = set(re.findall(r"\w+", " ".join(inside or [])))
+                self.fields[found[1]] = words_in(" ".join(inside or []))
 
     @cached_property
     def taken(self):
@@ -182,6 +197,17 @@ class Reaching:
                 ahead += self.taken.get(one, ())
         return found
 
+    def types_of(self, path):
+        """The types that a file's values can have."""
+        if path not in self.held:
+            words = words_in(GHOST.sub("", self.texts[path]))
+            for it in [it for word in words for it in self.named.get(word, [])]:
+                is_named = it.takes_self or not it.owner or it.owner in words
+                if is_named and it.crate in self.crates_of(path):
+                    words |= words_in(it.head)
+            self.held[path] = {*self.living(words, set())}
+        return self.held[path]
+
     def calls_of(self, by):
         """What a function calls, and what it passes on."""
         calls = [(*it.groups(), it.end() - 1) for it in CALL.finditer(by.body)]
@@ -192,7 +218,8 @@ class Reaching:
             near = [it for it in self.named.get(name, []) if it.crate in self.crates_of(by.path)]
             given = at and parts(by.body, at, "([{ )]}")
             for it in near:
-                is_method = dot and it.owner and it.fits(given)
+                is_its = it.of_trait or it.owner in self.types_of(by.path)
+                is_method = dot and it.owner and is_its and it.fits(given)
                 is_path = of and (not it.owner or it.owner in types or len(of) == 1)
                 if is_method or is_path or (not dot and not of and self.is_plain(by, it)):
                     yield it
