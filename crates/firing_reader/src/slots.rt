@@ -122,7 +122,7 @@ impl Slots {
     #[cold]
     #[inline(never)]
     fn grow(&mut self) -> Option<()> {
-        let more = self.slots.len().checked_mul(2)?;
+        let more = 2 * self.slots.len();
         let mut slots = vec![in self.alloc; Slot::EMPTY; more].ok()?;
         for slot in &self.slots {
             if !slot.is_empty() {
