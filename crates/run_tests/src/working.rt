@@ -35,21 +35,24 @@ fn worked<R: Wait>(
     Ok(pieces)
 }
 
-// The numbers that the first piece has, and how many texts and aggregations.
-fn lent(alloc: Global, pieces: &[(u32, Piece)]) -> Result<(Vec<u64>, usize, usize), AllocError> {
+// The numbers that the first piece has, how many texts and aggregations, and its exit.
+type Lent = (Vec<u64>, usize, usize, Option<(u64, u8)>);
+
+fn lent(alloc: Global, pieces: &[(u32, Piece)]) -> Result<Lent, AllocError> {
     let Some((_, piece)) = pieces.first() else {
         return Err(AllocError);
     };
     let numbers = Vec::from_slice(alloc, piece.taken())?;
-    Ok((numbers, piece.events().len(), piece.table().len()))
+    Ok((
+        numbers,
+        piece.events().len(),
+        piece.table().len(),
+        piece.exit(),
+    ))
 }
 
 // What the piece of the first thread lends.
-fn lent_by<R: Wait>(
-    rt: &R,
-    alloc: Global,
-    ends: bool,
-) -> Result<(Vec<u64>, usize, usize), Refusal> {
+fn lent_by<R: Wait>(rt: &R, alloc: Global, ends: bool) -> Result<Lent, Refusal> {
     let tree = read_script(alloc, EXITS)?;
     let script = check(alloc, tree)?;
     let trace = read_trace(alloc, FOUR_HITS)?;
@@ -60,18 +63,20 @@ fn lent_by<R: Wait>(
 
 #[test]
 fn a_worker_makes_a_piece_of_all_firings(rt: HostRuntime) -> Result<(), Fail> {
-    let (numbers, texts, tables) = lent_by(&rt, rt.alloc(), false)?;
+    let (numbers, texts, tables, exit) = lent_by(&rt, rt.alloc(), false)?;
     assert_eq!(rt; numbers.as_slice(), [10, 20, 40].as_slice());
     assert_eq!(rt; texts, 3);
     assert_eq!(rt; tables, 1);
+    assert!(rt; matches!(exit, Some((10, 1))));
     Ok(())
 }
 
 #[test]
 fn a_watching_worker_ends_a_group_at_its_exit(rt: HostRuntime) -> Result<(), Fail> {
-    let (numbers, texts, tables) = lent_by(&rt, rt.alloc(), true)?;
+    let (numbers, texts, tables, exit) = lent_by(&rt, rt.alloc(), true)?;
     assert_eq!(rt; numbers.as_slice(), [10].as_slice());
     assert_eq!(rt; texts, 1);
     assert_eq!(rt; tables, 1);
+    assert!(rt; matches!(exit, Some((10, 1))));
     Ok(())
 }

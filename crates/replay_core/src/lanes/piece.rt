@@ -66,6 +66,13 @@ impl Piece {
         &self.taken
     }
 
+    /// The number of the first that exited, and its status.
+    pub fn exit(&self) -> Option<(u64, u8)>
+        ensures { result ≡ (piece_seen self.now).exit }
+    {
+        self.exit
+    }
+
     /// Notes a text at the firing of this number, which was taken.
     pub(crate) fn note_text(&mut self, number: u64, text: Text) -> Result<(), AllocError>
         requires { Contains self.old.taken.items number }
