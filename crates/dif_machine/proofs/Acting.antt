@@ -1,34 +1,26 @@
 -- What each instruction makes of a state, from what its call read.
-use Rattle.std.specs.Prelude.{◌≡◌, ◌≢◌, ◌<◌, ℕ, zero, suc, ◌+◌, ◌++◌, Bool, true, false}
-use Rattle.std.specs.Prelude.{List, [], ◌∷◌, length, nat_lt, Option, Some, None}
+use Rattle.std.specs.Prelude.{◌≡◌, ◌≢◌, ◌<◌, ℕ, zero, suc, ◌+◌, ◌++◌, Bool, true, false, List, []}
+use Rattle.std.specs.Prelude.{◌∷◌, length, nat_lt, Option, Some, None}
 use Rattle.std.proofs.Common.{refl, sym, ap, ◌∙◌, cond}
-use Rattle.std.proofs.lemmas.Bool.{ltb-true}
+use Rattle.std.proofs.lemmas.Bool.{lt-ltb, ltb-true}
+use Rattle.std.proofs.lemmas.Option.{none-some, same_Some}
 use Rattle.d_values.specs.Keys.{part_of}
 use Rattle.numbered.specs.declared.word.Word.{Word}
-use Rattle.dif_machine.specs.Vocabulary.{Firing, KeyPart, Kind, Ldga}
-use Rattle.dif_machine.specs.Vocabulary.{NumberKind, TextKind, Object, Reg, Ret, at, Value, Int, Text}
-use Rattle.dif_machine.specs.Vocabulary.{Variables, kind_of}
+use Rattle.dif_machine.specs.Vocabulary.{Firing, KeyPart, Kind, Ldga, NumberKind, TextKind, Object}
+use Rattle.dif_machine.specs.Vocabulary.{Reg, at, Value, Int, Text, Variables, kind_of}
 use Rattle.dif_machine.specs.Frames.{Frame, at_index, with_tuple, with_value}
 use Rattle.dif_machine.specs.Machine.{IsWordOf, value_of}
-use Rattle.dif_machine.specs.Semantics.{Next, Ends, Goes, Stuck, on, on_kind, on_key}
-use Rattle.dif_machine.specs.Semantics.{puts, pushes, act}
+use Rattle.dif_machine.specs.Semantics.{Next, Goes, Stuck, on, on_kind, on_key, puts, pushes, act}
 use Rattle.dif_machine.specs.Steps.Instructions.{held_in, kind_in, load_of, set_in, store_of}
 use Rattle.dif_machine.specs.declared.memory.Variable.{Variable}
 use Rattle.dif_machine.specs.declared.memory.Variable.TheVariants.{Element}
 
-kind_none : (k : Kind) (go : Value → Next) → on_kind k None go ≡ Stuck
-kind_none NumberKind go = refl
-kind_none TextKind go = refl
-
-kind_is : (k : Kind) (value : Value) (other go : Value → Next) → on_kind k (Some value) other ≢ Stuck → on_kind k (Some value) go ≡ go value
-kind_is NumberKind (Int n) other go h = refl
-kind_is TextKind (Text bytes) other go h = refl
-kind_is _ _ other go h = absurd (h refl)
-
-kind_fits : (k : Kind) (value : Value) (go : Value → Next) → on_kind k (Some value) go ≢ Stuck → kind_of value ≡ k
-kind_fits NumberKind (Int n) go h = refl
-kind_fits TextKind (Text bytes) go h = refl
-kind_fits _ _ go h = absurd (h refl)
+-- a value of the kind was there, and goes on
+kind_was : (k : Kind) (v : Option Value) (go : Value → Next) → on_kind k v go ≢ Stuck
+    → (value : Value) × (v ≡ Some value) × (kind_of value ≡ k) × ((other : Value → Next) → on_kind k v other ≡ other value)
+kind_was NumberKind (Some (Int n)) go h = (Int n, refl, refl, λ other. refl)
+kind_was TextKind (Some (Text bytes)) go h = (Text bytes, refl, refl, λ other. refl)
+kind_was _ _ go h = absurd (h refl)
 
 key_is : (key : List KeyPart) (other next : Next) → on_key key other ≢ Stuck → on_key key next ≡ next
 key_is [] other next h = absurd (h refl)
@@ -37,10 +29,6 @@ key_is (p ∷ ps) other next h = refl
 keyed : (key : List KeyPart) (next : Next) → on_key key next ≢ Stuck → next ≢ Stuck
 keyed [] next h = absurd (h refl)
 keyed (p ∷ ps) next h = h
-
-fits_8 : (b : Bool) (other next : Next) → cond b other Stuck ≢ Stuck → cond b next Stuck ≡ next
-fits_8 true other next h = refl
-fits_8 false other next h = absurd (h refl)
 
 room : (b : Bool) (n : ℕ) (go : Next) → nat_lt n 8 ≡ b → cond b go Stuck ≢ Stuck → n < 8
 room true n go e h = ltb-true n 8 e
@@ -69,18 +57,22 @@ module _ (s : Frame) (some vars : Variables) (p o : Object) (g f : Firing) where
   same (Element x) a runs = key_is s.tuple (on_kind x.kind (at s.registers a) (goes_on some (Element x))) _ runs
   same _ a runs = refl
 
-  pub stored_there : (variable : Variable) (a : Reg) → act (store_of variable a) p g s some ≢ Stuck → at s.registers a ≢ None
-  stored_there variable a runs none = asks variable a runs (ap (λ v. on_kind (kind_in variable) v (goes_on some variable)) none ∙ kind_none (kind_in variable) (goes_on some variable))
+  module _ (variable : Variable) (a : Reg) (runs : act (store_of variable a) p g s some ≢ Stuck) where
+    was : (value : Value) × (at s.registers a ≡ Some value) × (kind_of value ≡ kind_in variable) × ((other : Value → Next) → on_kind (kind_in variable) (at s.registers a) other ≡ other value)
+    was = kind_was (kind_in variable) (at s.registers a) (goes_on some variable) (asks variable a runs)
 
-  module _ (variable : Variable) (a : Reg) (value : Value) (runs : act (store_of variable a) p g s some ≢ Stuck) (there : at s.registers a ≡ Some value) where
-    asked : on_kind (kind_in variable) (Some value) (goes_on some variable) ≢ Stuck
-    asked h = asks variable a runs (ap (λ v. on_kind (kind_in variable) v (goes_on some variable)) there ∙ h)
+    pub stored_there : at s.registers a ≢ None
+    stored_there none = none-some was.0 (sym none ∙ was.1)
 
-    pub stored_kind : kind_of value ≡ kind_in variable
-    stored_kind = kind_fits (kind_in variable) value (goes_on some variable) asked
+    module _ (value : Value) (there : at s.registers a ≡ Some value) where
+      same_value : was.0 ≡ value
+      same_value = same_Some was.0 value (sym was.1 ∙ there)
 
-    pub stores : act (store_of variable a) o f s vars ≡ Goes (at_index s (s.pc + 1)) (set_in vars variable s.tuple value)
-    stores = same variable a runs ∙ ap (λ v. on_kind (kind_in variable) v (goes_on vars variable)) there ∙ kind_is (kind_in variable) value (goes_on some variable) (goes_on vars variable) asked
+      pub stored_kind : kind_of value ≡ kind_in variable
+      stored_kind = ap kind_of (sym same_value) ∙ was.2
+
+      pub stores : act (store_of variable a) o f s vars ≡ Goes (at_index s (s.pc + 1)) (set_in vars variable s.tuple value)
+      stores = same variable a runs ∙ was.3 (goes_on vars variable) ∙ ap (goes_on vars variable) same_value
 
   -- ---- pushes, of the kind that the instruction says
 
@@ -88,32 +80,22 @@ module _ (s : Frame) (some vars : Variables) (p o : Object) (g f : Firing) where
   pushing k a vars = on_kind k (at s.registers a) (λ value. pushes s (part_of value) vars)
 
   module _ (k : Kind) (a : Reg) (value : Value) (runs : pushing k a some ≢ Stuck) (there : at s.registers a ≡ Some value) where
-    pushed : on_kind k (Some value) (λ value. pushes s (part_of value) some) ≢ Stuck
-    pushed h = runs (ap (λ v. on_kind k v (λ value. pushes s (part_of value) some)) there ∙ h)
+    pushed : (vars : Variables) → pushing k a vars ≡ pushes s (part_of value) vars
+    pushed vars =
+        let was = kind_was k (at s.registers a) (λ value. pushes s (part_of value) some) runs in
+        was.3 (λ value. pushes s (part_of value) vars) ∙ ap (λ value. pushes s (part_of value) vars) (same_Some was.0 value (sym was.1 ∙ there))
 
     free : pushes s (part_of value) some ≢ Stuck
-    free h = pushed (kind_is k value _ (λ value. pushes s (part_of value) some) pushed ∙ h)
+    free h = runs (pushed some ∙ h)
 
     -- a push that isn't stuck has room
     pub fits : length s.tuple < 8
     fits = room (nat_lt (length s.tuple) 8) (length s.tuple) (Goes (with_tuple s (s.tuple ++ part_of value ∷ [])) some) refl free
 
     pub pushes_part : pushing k a vars ≡ Goes (with_tuple s (s.tuple ++ part_of value ∷ [])) vars
-    pushes_part =
-        ap (λ v. on_kind k v (λ value. pushes s (part_of value) vars)) there
-        ∙ kind_is k value _ (λ value. pushes s (part_of value) vars) pushed
-        ∙ fits_8 (nat_lt (length s.tuple) 8) (Goes (with_tuple s (s.tuple ++ part_of value ∷ [])) some) _ free
+    pushes_part = pushed vars ∙ ap (λ b. cond b (Goes (with_tuple s (s.tuple ++ part_of value ∷ [])) vars) Stuck) (lt-ltb (length s.tuple) 8 fits)
 
-module _ (o : Object) (f : Firing) (s : Frame) (vars : Variables) where
-  -- the one array of arguments
-  pub only_array : (v : ℕ) (a d : Reg) → act (Ldga v a d) o f s vars ≢ Stuck → v ≡ 0
-  only_array zero a d runs = refl
-  only_array (suc v) a d runs = absurd (runs refl)
-
-  -- and the value that is returned
-  pub ret_there : (a : Reg) → act (Ret a) o f s vars ≢ Stuck → (value : Value) × (at s.registers a ≡ Some value)
-  ret_there a runs = by (at s.registers a) refl
-    where
-      by : (v : Option Value) → at s.registers a ≡ v → (value : Value) × (at s.registers a ≡ Some value)
-      by None e = absurd (runs (ap (λ v. on v (λ value. Ends value vars)) e))
-      by (Some value) e = (value, e)
+-- the one array of arguments
+pub only_array : (o : Object) (f : Firing) (s : Frame) (vars : Variables) (v : ℕ) (a d : Reg) → act (Ldga v a d) o f s vars ≢ Stuck → v ≡ 0
+only_array o f s vars zero a d runs = refl
+only_array o f s vars (suc v) a d runs = absurd (runs refl)

@@ -2,12 +2,11 @@
 use Rattle.std.specs.Prelude.{◌≡◌, ◌≢◌, ℕ, zero, suc, ◌+◌, ◌++◌, Bool, true, false, List, [], ◌∷◌}
 use Rattle.std.specs.Prelude.{length, nat_lt, Option, Some, None, Result, Ok, Err, slice_get}
 use Rattle.std.specs.Int.{cast_signed, w64}
-use Rattle.std.proofs.Common.{refl, sym, ap, ◌∙◌, subst, ⊎_elim, cond}
+use Rattle.std.proofs.Common.{refl, sym, ap, ◌∙◌, subst, ⊎_elim, arith, cond}
 use Rattle.std.proofs.lemmas.Bool.{cases_eq}
 use Rattle.std.proofs.lemmas.List.{get_or-set_other}
 use Rattle.dif_validate.specs.Flow.{jump_target}
 use Rattle.dif_validate.specs.Registers.{register_number, put}
-use Rattle.dif_validate.specs.declared.register.Reg.TheVariants.{R0, R1, R2, R3, R4, R5, R6, R7}
 use Rattle.dif_validate.proofs.Writes.{put_set, put_zero}
 use Rattle.dif_machine.specs.Vocabulary.{Comparison, Firing, Instr, Alu, Not, Mov, Cmp, Tst, Scmp}
 use Rattle.dif_machine.specs.Vocabulary.{Ba, Branch, Setx, Sets, Ldgs, Ldga, Ldts, Stts, Ldls, Stls}
@@ -24,22 +23,8 @@ use Rattle.dif_machine.specs.Sources.{built_in_of}
 use Rattle.dif_machine.specs.Semantics.{Next, Goes, Ends, Stuck, on, on_number, on_text, on_kind}
 use Rattle.dif_machine.specs.Semantics.{on_key, puts_result, act, step_of}
 
-abbrev register_of : ℕ → Reg
-register_of zero = R0
-register_of (suc zero) = R1
-register_of (suc (suc zero)) = R2
-register_of (suc (suc (suc zero))) = R3
-register_of (suc (suc (suc (suc zero)))) = R4
-register_of (suc (suc (suc (suc (suc zero))))) = R5
-register_of (suc (suc (suc (suc (suc (suc zero)))))) = R6
-register_of (suc (suc (suc (suc (suc (suc (suc n))))))) = R7
-
-again : (r : Reg) → register_of (register_number r) ≡ r
-again R0 = refl
-again _ = refl
-
 pub same_register : (d r : Reg) → register_number d ≡ register_number r → d ≡ r
-same_register d r e = sym (again d) ∙ ap register_of e ∙ again r
+same_register d r e = grind arith
 
 put_other : (xs : List (Option Value)) (d r : Reg) (x : Option Value) → Some d ≢ Some r → at (put xs d x) r ≡ at xs r
 put_other xs d r x ne =

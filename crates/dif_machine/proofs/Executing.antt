@@ -25,10 +25,8 @@ pub inside : {A : Type 0} (xs : List A) (i : ℕ) (go : A → Next) → on (slic
 inside xs i go runs = ⊎_elim (λ p. p.1) (λ p. absurd (runs (ap (λ x. on x go) p.1))) (slice_get_cases xs i).1
 
 -- the index before the next one is the one that is known
-pub can_here : (i : Instr) (next : ℕ) (s : Frame) → CanExecute i next s → (index : ℕ) → next ≡ index + 1 → (o : Object) × (f : Firing) × (vars : Variables) × (act i o f (at_index s index) vars ≢ Stuck)
-can_here i next s c index is_next =
-    let same : c.3 ≡ index = omega (arith, c.4, is_next) in
-    (c.0, c.1, c.2, subst (λ p. act i c.0 c.1 (at_index s p) c.2 ≢ Stuck) same c.5)
+pub can_here : (i : Instr) (next : ℕ) (s : Frame) (c : CanExecute i next s) (index : ℕ) → next ≡ index + 1 → act i c.object c.firing (at_index s index) c.vars ≢ Stuck
+can_here i next s c index is_next = subst (λ p. act i c.object c.firing (at_index s p) c.vars ≢ Stuck) (let same : c.index ≡ index = omega (arith, c.is_next, is_next) in same) c.runs
 
 -- if neither the texts nor those that last are others
 pub still_lasts : (m n : Seen) → n.texts ≡ m.texts → n.lasting ≡ m.lasting → Keeps m.lasting m.texts → Lasts m n
@@ -68,19 +66,23 @@ abbrev pub IsStable : {M : Type 0} → (M → List (List ℕ) → Variables) →
 IsStable {M} holds is_over = (m : M) (old new : List (List ℕ)) → is_over m old → Keeps old new → is_over m new × (holds m new ≡ holds m old)
 
 module _ {M : Type 0} (holds : M → List (List ℕ) → Variables) (is_over : M → List (List ℕ) → Type 0) (beside : M → List ℕ → ℕ) (o : Object) (f : Firing) (memory : M) (m : Seen) where
+  -- memory stayed as it was, and texts may be more
+  led : IsStable holds is_over → IsRunning is_over memory m → (next : Next) (result : Result Onward MachineFault) (left : M) (n : Seen) → left ≡ memory → Keeps m.texts n.texts → Lasts m n
+      → (Knows f m.known → Knows f n.known) → Stepped (holds memory m.texts) next result n.frame (holds memory m.texts) → LeadsTo holds is_over beside f memory m result left n next
+  led stable r next result left n stays kept lasts known stepped =
+      let all = stable memory m.lasting m.texts r.over r.among in
+      subst (λ left. LeadsTo holds is_over beside f memory m result left n next) (sym stays) (record {
+        lasting = record { more = lasts.more; among = lasts.among };
+        known = known;
+        over = (stable memory m.lasting n.lasting r.over lasts.more).0;
+        others = refl;
+        stepped = subst (Stepped (holds memory m.texts) next result n.frame) (sym (stable memory m.texts n.texts all.0 kept).1) stepped;
+      })
+
   -- memory wasn't asked
   pub executed : IsStable holds is_over → (next : ℕ) (i : Instr) (result : Result Onward MachineFault) (n : Seen) → IsRunning is_over memory m → ExecutesFor i next o f m result n → ExecutesOn holds is_over beside i next o f memory m result memory n
   executed stable next i result n r e index is_next =
-      let all = stable memory m.lasting m.texts r.over r.among in
-      let s = stable memory m.texts n.texts all.0 e.kept in
-      let lasts = e.lasting r.among in
-      record {
-        lasting = lasts;
-        known = e.known;
-        over = (stable memory m.lasting n.lasting r.over lasts.more).0;
-        others = refl;
-        stepped = subst (Stepped (holds memory m.texts) (act i o f (at_index m.frame index) (holds memory m.texts)) result n.frame) (sym s.1) (e.stepped index is_next (holds memory m.texts));
-      }
+      led stable r _ result memory n refl e.kept (e.lasting r.among) e.known (e.stepped index is_next (holds memory m.texts))
 
   -- a variable was loaded into a register
   pub loaded : IsStable holds is_over → IsRunning is_over memory m → (next : ℕ) (i : Instr) (d : Reg) (value : Value) (left : M) (k n : Seen) (w : Word) → Grows m k → left ≡ memory → IsWordOf k.texts w value
@@ -88,27 +90,13 @@ module _ {M : Type 0} (holds : M → List (List ℕ) → Variables) (is_over : M
       → ((index : ℕ) → next ≡ index + 1 → act i o f (at_index m.frame index) (holds memory m.texts) ≡ Goes (with_value (at_index m.frame index) d value) (holds memory m.texts))
       → ExecutesOn holds is_over beside i next o f memory m (Ok (onward.Goes next)) left n
   loaded stable r next i d value left k n w grows stays is put acts index is_next =
-      let all = stable memory m.lasting m.texts r.over r.among in
-      let same = (stable memory m.texts k.texts all.0 grows.kept).1 in
-      subst (λ left. LeadsTo holds is_over beside f memory m (Ok (onward.Goes next)) left n (act i o f (at_index m.frame index) (holds memory m.texts))) (sym stays)
-      (subst (λ n. LeadsTo holds is_over beside f memory m (Ok (onward.Goes next)) memory n (act i o f (at_index m.frame index) (holds memory m.texts))) (sym put) (record {
-        lasting = record { more = grows.lasting.more; among = grows.lasting.among };
-        known = subst (Knows f) (sym grows.known);
-        over = (stable memory m.lasting k.lasting r.over grows.lasting.more).0;
-        others = refl;
-        stepped = acts index is_next ∙ sym (λ j. Goes (at_index (with_register (grows.frame j) d (Some (is.is j))) (is_next j)) (same j));
-      }))
+      subst (λ n. LeadsTo holds is_over beside f memory m (Ok (onward.Goes next)) left n (act i o f (at_index m.frame index) (holds memory m.texts))) (sym put)
+      (led stable r _ _ left (with_frame k (with_register k.frame d (Some (value_of k.texts w)))) stays grows.kept (record { more = grows.lasting.more; among = grows.lasting.among }) (subst (Knows f) (sym grows.known))
+      (acts index is_next ∙ sym (λ j. Goes (at_index (with_register (grows.frame j) d (Some (is.is j))) (is_next j)) (holds memory m.texts))))
 
   -- or memory was refused to it
   pub unloaded : IsStable holds is_over → IsRunning is_over memory m → (next : ℕ) (i : Instr) (result : Result Onward MachineFault) (left : M) (k : Seen) → Grows m k → left ≡ memory → result ≡ Err Memory
       → ExecutesOn holds is_over beside i next o f memory m result left k
   unloaded stable r next i result left k grows stays refused index is_next =
-      let all = stable memory m.lasting m.texts r.over r.among in
-      subst (λ left. LeadsTo holds is_over beside f memory m result left k (act i o f (at_index m.frame index) (holds memory m.texts))) (sym stays)
-      (subst (λ result. LeadsTo holds is_over beside f memory m result memory k (act i o f (at_index m.frame index) (holds memory m.texts))) (sym refused) (record {
-        lasting = record { more = grows.lasting.more; among = grows.lasting.among };
-        known = subst (Knows f) (sym grows.known);
-        over = (stable memory m.lasting k.lasting r.over grows.lasting.more).0;
-        others = refl;
-        stepped = (stable memory m.texts k.texts all.0 grows.kept).1;
-      }))
+      subst (λ result. LeadsTo holds is_over beside f memory m result left k (act i o f (at_index m.frame index) (holds memory m.texts))) (sym refused)
+      (led stable r _ (Err Memory) left k stays grows.kept grows.lasting (subst (Knows f) (sym grows.known)) refl)

@@ -1,5 +1,5 @@
 -- A frame that has what is known.
-use Rattle.std.specs.Prelude.{◌≡◌, ◌<◌, ℕ, zero, suc, false, List, [], ◌∷◌}
+use Rattle.std.specs.Prelude.{◌≡◌, ◌≢◌, ◌<◌, ℕ, zero, suc, false, List, [], ◌∷◌}
 use Rattle.std.specs.Prelude.{length, Option, Some, None, slice_index_or, slice_set}
 use Rattle.std.proofs.Common.{refl, sym, ap, ◌∙◌, subst, ⊎_elim, arith}
 use Rattle.std.proofs.lemmas.Bool.{cases_eq, or_parts}
@@ -91,12 +91,12 @@ two k a b s x y =
     let q = or_parts (is_unset (at s.registers a)) _ y in
     (other_or_unset k (at s.registers a) p.0 q.0, other_or_unset k (at s.registers b) p.1 q.1)
 
+pub some_there : {A : Type 0} (o : Option A) → o ≢ None → (x : A) × (o ≡ Some x)
+some_there None h = absurd (h refl)
+some_there (Some x) h = (x, refl)
+
 pub any : (a : Reg) (s : Shape) → finds_unset (Any a) s ≡ false → (k : Kind) × (at s.registers a ≡ Some k)
-any a s h = by (at s.registers a) refl h
-  where
-    by : (o : Option Kind) → at s.registers a ≡ o → is_unset o ≡ false → (k : Kind) × (at s.registers a ≡ Some k)
-    by None e h = cc
-    by (Some k) e h = (k, e)
+any a s h = some_there (at s.registers a) (λ none. let set = ap is_unset none in cc)
 
 module _ (P : Next → Type 0) where
   pub on_there : {A : Type 0} (o : Option A) (x : A) (go : A → Next) → o ≡ Some x → P (go x) → P (on o go)

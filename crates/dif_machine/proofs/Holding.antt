@@ -2,7 +2,8 @@
 use Rattle.std.specs.Prelude.{◌≡◌, ◌≢◌, ◌<◌, ◌≤◌, ◌∷◌, [], ℕ, suc, List, length, take, Option, None, Some}
 use Rattle.std.specs.Prelude.{IfSome, map, option_map, slice_index_or, slice_set}
 use Rattle.std.proofs.Common.{refl, sym, ap, ◌∙◌, subst, arith}
-use Rattle.std.proofs.lemmas.Option.{slice_get_within, slice_get-get_or, get_or_from_slice_get}
+use Rattle.std.proofs.lemmas.Grind.{common_steps}
+use Rattle.std.proofs.lemmas.Option.{gets}
 use Rattle.std.specs.List.{All}
 use Rattle.std.proofs.Math.ListN.{get_or-map}
 use Rattle.std.proofs.lemmas.List.{get_or-take, length-take, length-take-le, map-set}
@@ -51,14 +52,10 @@ keeps_on first old new a b = record {
 -- ---- the first texts
 
 pub number_before : (texts : List (List ℕ)) (k n : ℕ) (bytes : List ℕ) → IsNumberOf (take k texts) n bytes → IsNumberOf texts n bytes
-number_before texts k n bytes e =
-    let inside = slice_get_within (take k texts) n bytes e in
-    let long = length-take k texts in
-    slice_get-get_or texts n [] (omega (arith, inside, long)) ∙ ap Some (sym (get_or-take k texts n [] (omega (arith, inside, long))) ∙ get_or_from_slice_get (take k texts) n bytes [] e)
+number_before texts k n bytes e = grind (arith, common_steps, gets)
 
 pub number_still : (texts : List (List ℕ)) (k n : ℕ) (bytes : List ℕ) → IsNumberOf texts n bytes → n < length (take k texts) → IsNumberOf (take k texts) n bytes
-number_still texts k n bytes e inside =
-    slice_get-get_or (take k texts) n [] inside ∙ ap Some (get_or-take k texts n [] (omega (arith, inside, length-take k texts)) ∙ get_or_from_slice_get texts n bytes [] e)
+number_still texts k n bytes e inside = grind (arith, common_steps, gets)
 
 pub take_distinct : (texts : List (List ℕ)) (k : ℕ) → AreDistinct texts → AreDistinct (take k texts)
 take_distinct texts k distinct m n bytes first second = distinct m n bytes (number_before texts k m bytes first) (number_before texts k n bytes second)

@@ -4,7 +4,8 @@ use Rattle.std.proofs.Common.{refl, sym, ap, subst, ◌∙◌, arith}
 use Rattle.std.proofs.Props.{props}
 use Rattle.std.proofs.lemmas.List.{map-set}
 use Rattle.std.proofs.lemmas.List.Elements.{All-set}
-use Rattle.std.proofs.lemmas.Option.{get_or_from_slice_get, same_Some, slice_get-map, slice_get_within}
+use Rattle.std.proofs.lemmas.Grind.{common_steps}
+use Rattle.std.proofs.lemmas.Option.{get_or_from_slice_get, gets, slice_get-map, slice_get_within}
 use Rattle.numbered.specs.Texts.{Keeps, IsNumberOf, text_at}
 use Rattle.dif_machine.specs.Vocabulary.{Firing, Int, Text}
 use Rattle.dif_machine.specs.Machine.{Knows, found_of, knows_nothing, texts_of}
@@ -13,9 +14,7 @@ use Rattle.dif_machine.specs.Steps.Found.{AreFound}
 use Rattle.dif_machine.proofs.Holding.{found_kept, numbers_kept}
 
 text_mapped : (texts : List (List ℕ)) (n : ℕ) → n < length texts → slice_index_or (map Text texts) n (Int 0) ≡ Text (text_at texts n)
-text_mapped [] n h = absurd (omega (arith, h))
-text_mapped (t ∷ ts) zero h = refl
-text_mapped (t ∷ ts) (suc n) h = text_mapped ts n (omega (arith, h))
+text_mapped texts n h = grind (arith, common_steps)
 
 -- the texts are the built-in variables from the fifth on
 pub text_is : (f : Firing) (v : ℕ) → 4 ≤ v → v < 9 → slice_index_or (built_ins f) v (Int 0) ≡ Text (text_at (texts_of f) (v - 4))
@@ -26,11 +25,7 @@ text_is f v text few =
 -- what holds of each that was found holds of one more
 one_more : (P : ℕ → List ℕ → Type 0) (found : List (Option (List ℕ))) (i : ℕ) (bytes : List ℕ) → ((k : ℕ) (b : List ℕ) → slice_get found k ≡ Some (Some b) → P k b) → P i bytes
     → (k : ℕ) (b : List ℕ) → slice_get (slice_set found i (Some bytes)) k ≡ Some (Some b) → P k b
-one_more P [] i bytes each one k b e = each k b e
-one_more P (x ∷ found) zero bytes each one zero b e = subst (P 0) (same_Some bytes b (same_Some (Some bytes) (Some b) e)) one
-one_more P (x ∷ found) zero bytes each one (suc k) b e = each (suc k) b e
-one_more P (x ∷ found) (suc i) bytes each one zero b e = each 0 b e
-one_more P (x ∷ found) (suc i) bytes each one (suc k) b e = one_more (λ k. P (suc k)) found i bytes (λ k b. each (suc k) b) one k b e
+one_more P found i bytes each one k b e = grind (arith, common_steps, gets, each k b)
 
 module _ (f : Firing) (old new : List (List ℕ)) (kept : Keeps old new) (numbers : List (Option ℕ)) (found : AreFound f old numbers) where
   pub found_still : AreFound f new numbers

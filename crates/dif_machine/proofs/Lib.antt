@@ -3,7 +3,6 @@ pub mod Progress
 pub mod Ending
 pub mod Knowing
 pub mod Holding
-pub mod Loading
 pub mod Cells
 pub mod Acting
 pub mod Executing

@@ -7,8 +7,7 @@ use Rattle.dif_machine.specs.Vocabulary.{Condition, Function, Strlen, Strjoin, I
 use Rattle.dif_machine.specs.Vocabulary.{Cmp, Tst, Scmp, Ba, Branch, Setx, Sets, Ldgs, Ldga, Ldts}
 use Rattle.dif_machine.specs.Vocabulary.{Stts, Ldls, Stls, Pushtr, Pushtv, Flushts, Ldtaa, Sttaa}
 use Rattle.dif_machine.specs.Vocabulary.{Call, Ret, Nop, Reg, Object, at, return_kind, IsValid}
-use Rattle.dif_machine.specs.Vocabulary.{Comparison, MachineFault, DivideByZero, Memory, Variables}
-use Rattle.dif_machine.specs.Vocabulary.{as_kind}
+use Rattle.dif_machine.specs.Vocabulary.{MachineFault, DivideByZero, Memory, Variables, as_kind}
 use Rattle.std.proofs.Common.{refl, sym, ap, ◌∙◌, subst, ⊎_elim, arith, cond}
 use Rattle.std.proofs.lemmas.List.{map-append, length-map}
 use Rattle.std.proofs.lemmas.Bool.{ltb-false, leb-false, not-false}
@@ -34,15 +33,14 @@ use Rattle.dif_machine.specs.Kinds.{kind_of_part, kinds_of}
 use Rattle.dif_machine.specs.Known.{Holds, FitsShape}
 use Rattle.dif_machine.specs.Operators.{result_of, comparison_of, text_comparison_of, holds}
 use Rattle.dif_machine.specs.Operators.{call_of}
-use Rattle.dif_machine.specs.Runs.{End, Reaches, faults, goes, Comes, stays, steps_on}
-use Rattle.dif_machine.specs.Runs.{RunEnds}
+use Rattle.dif_machine.specs.Runs.{End, Reaches, faults, goes, Comes, stays, steps_on, RunEnds}
 use Rattle.dif_machine.specs.Sources.{built_in_of, built_ins, local_in, own_value}
 use Rattle.dif_machine.specs.Semantics.{Next, Goes, Ends, Faults, Stuck, on, on_key, puts_result}
 use Rattle.dif_machine.specs.Semantics.{pushes, act, step_of}
 use Rattle.dif_machine.specs.Steps.Semantics.{Stepped}
 use Rattle.dif_machine.proofs.Fitting.{fits_within, fits_value, fits_index, fits_comparison}
 use Rattle.dif_machine.proofs.Fitting.{fits_tuple, one, two, any, on_there, number_there}
-use Rattle.dif_machine.proofs.Fitting.{text_there, kind_there}
+use Rattle.dif_machine.proofs.Fitting.{some_there, text_there, kind_there}
 
 -- what is known at a frame's index holds of it
 pub record Reached (o : Object) (f : Frame) : Type 0 where
@@ -162,10 +160,6 @@ module _ (o : Object) (valid : IsValid o) (f : Firing) (s : Frame) (vars : Varia
   branch_good condition to at_pc fine true = jump (Branch condition to) at_pc fine to refl refl
   branch_good condition to at_pc fine false = fall (Branch condition to) at_pc fine _ vars refl refl (fits_index t s _ fits)
 
-  comparison_there : (known : Option Comparison) → known ≢ None → (c : Comparison) × (known ≡ Some c)
-  comparison_there None h = absurd (h refl)
-  comparison_there (Some c) h = (c, refl)
-
   act_good : (i : Instr) (at_pc : slice_get o.code s.pc ≡ Some i) (fine : IsFaultless o s.pc i t) → Good (act i o f s vars)
   act_good (Alu op a b d) p fine =
       let r = two Number a b t fine.fine.kinds fine.fine.set in
@@ -186,7 +180,7 @@ module _ (o : Object) (valid : IsValid o) (f : Firing) (s : Frame) (vars : Varia
       text_there Good (at s.registers a) _ (fits.registers a Text r.0) (λ x. text_there Good (at s.registers b) _ (fits.registers b Text r.1) (λ y. compared_good (Scmp a b) p fine (text_comparison_of x y) refl refl))
   act_good (Ba to) p fine = jump (Ba to) p fine to refl refl
   act_good (Branch condition to) p fine =
-      let c = comparison_there s.comparison (fits.compared (not-false t.compared fine.fine.compared)) in
+      let c = some_there s.comparison (fits.compared (not-false t.compared fine.fine.compared)) in
       on_there Good s.comparison c.0 _ c.1 (branch_good condition to p fine (holds condition c.0))
   act_good (Setx i d) p fine =
       let x = there o.numbers i (leb-false (length o.numbers) i fine.table) in

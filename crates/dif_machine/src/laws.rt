@@ -13,6 +13,7 @@ ghost use Rattle.dif_machine.specs.Runs.{Comes, End, EndsBy, IsOver, Returns, Ru
 /// An instruction goes to the next index or to its target. It changes the register that it writes,
 /// a comparison the comparison, a push or `flushts` the tuple and a store the variables, and
 /// nothing else. A step that ends the run changes no variable.
+#[tactic(auto, using(crate::proofs::Changing::step_changes))]
 pub fn one_instruction_changes()
     ensures { (o : Object) (f : Firing) (s : Frame) (vars : Variables) (i : Instr)
         → slice_get o.code s.pc ≡ Some i → Changes i s vars (step_of o f s vars) }
@@ -20,17 +21,20 @@ pub fn one_instruction_changes()
 
 /// A run of a valid object is never stuck: it ends, after at most as many steps as the object has
 /// instructions.
+#[tactic(auto, using(crate::proofs::Ending::is_over))]
 pub fn runs_end()
     ensures { (o : Object) (f : Firing) (vars : Variables) → IsValid o → IsOver o f vars }
 {}
 
 /// The value that it returns is of the object's kind.
+#[tactic(auto, using(crate::proofs::Ending::is_kinded))]
 pub fn values_are_of_the_kind()
     ensures { (o : Object) (f : Firing) (vars after : Variables) (value : Value) → IsValid o
         → Runs o f vars (Returns value after) → return_kind o ≡ Some (kind_of value) }
 {}
 
 /// A run ends in one way.
+#[tactic(auto, using(crate::proofs::Ending::one_end))]
 pub fn one_end()
     ensures { (o : Object) (f : Firing) (vars : Variables) (a b : End)
         → Runs o f vars a → Runs o f vars b → a ≡ b }
@@ -45,6 +49,7 @@ pub fn runs_end_at_states()
 
 /// No state that a run of a valid object comes to is stuck; and what is known before its
 /// instruction is so there, whichever way led to it.
+#[tactic(auto, using(crate::proofs::Progress::not_stuck, crate::proofs::Progress::has_known))]
 pub fn never_stuck()
     ensures steps { (o : Object) (f : Firing) (first vars : Variables) (s : Frame) → IsValid o
         → Comes o f start first s vars → step_of o f s vars ≢ Stuck }

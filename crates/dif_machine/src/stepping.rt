@@ -9,7 +9,7 @@ mod variables;
 ghost use Rattle.std.specs.Prelude.{◌≡◌, ◌≢◌, ◌+◌, ℕ};
 ghost use Rattle.dif_machine.specs.Semantics.{act, Stuck};
 ghost use Rattle.dif_machine.specs.{Frames.at_index, Machine.Knows, Steps.Lasting.IsRunning};
-ghost use Rattle.dif_machine.specs.Steps.Instructions.{ExecutesOn};
+ghost use Rattle.dif_machine.specs.Steps.Instructions.{CanExecute, ExecutesOn};
 ghost use Rattle.dif_machine.specs.Vocabulary.{object_of};
 
 use crate::machine::Machine;
@@ -28,6 +28,7 @@ pub(crate) fn execute<M: Memory>(
     machine: &mut Machine,
     memory: &mut M,
 ) -> Step
+    requires can { CanExecute instr.now next machine.old.frame }
     requires runs { (index : ℕ) × (next ≡ index + 1) × (act instr.now (object_of difo.now)
         firing.now (at_index machine.old.frame index) (M.holds memory.old machine.old.texts)
         ≢ Stuck) }

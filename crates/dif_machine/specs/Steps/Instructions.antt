@@ -58,10 +58,13 @@ set_in vars (Element x) tuple value = set_own vars x tuple value
 -- ---- steps
 
 -- before this next index, with some variables, the instruction isn't stuck
-abbrev pub CanExecute : Instr → ℕ → Frame → Type 0
-CanExecute i next s =
-    (o : Object) × (f : Firing) × (vars : Variables) × (index : ℕ) × (next ≡ index + 1)
-    × (act i o f (at_index s index) vars ≢ Stuck)
+pub record CanExecute (i : Instr) (next : ℕ) (s : Frame) : Type 0 where
+  pub object : Object
+  pub firing : Firing
+  pub vars : Variables
+  pub index : ℕ
+  pub is_next : next ≡ index + 1
+  pub runs : act i object firing (at_index s index) vars ≢ Stuck
 
 -- whatever the variables, the call returns and leaves what the definition says, and texts keep
 -- their numbers

@@ -1,13 +1,12 @@
-use Rattle.std.specs.Prelude.{◌≡◌, ℤ, ◌%◌, ◌^◌}
-use Rattle.std.specs.Prelude.{int_div, int_rem, Ok, true}
+use Rattle.std.specs.Prelude.{◌≡◌, ℤ, ◌%◌, ◌^◌, int_div, int_rem, Ok, true}
 use Rattle.std.proofs.Common.{ap, arith, sym, ◌∙◌}
 use Rattle.std.specs.Int.{int_shr}
 use Rattle.std.proofs.lemmas.Nat.{and_le_l, or_lt, xor_lt}
 use Rattle.std.proofs.Math.Nat.{div-le_self, mod-eq_of_lt, mod-le}
 use Rattle.d_values.proofs.Residues.{moved, operated}
 use Rattle.d_values.specs.Numbers.{bits_of}
-use Rattle.dif_machine.specs.Vocabulary.{Divide, Remainder, Right, Or, Xor, And, Srl, Sra}
-use Rattle.dif_machine.specs.Vocabulary.{Sdiv, Udiv, Srem, Urem}
+use Rattle.dif_machine.specs.Vocabulary.{Divide, Remainder, Right, Or, Xor, And, Srl, Sra, Sdiv}
+use Rattle.dif_machine.specs.Vocabulary.{Udiv, Srem, Urem}
 use Rattle.d_values.specs.Types.{INT64}
 use Rattle.d_values.specs.Words.{narrow}
 use Rattle.dif_machine.specs.Plain.{divided_by, signed}

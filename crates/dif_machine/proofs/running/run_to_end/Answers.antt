@@ -19,11 +19,14 @@ index-instr-requires g c =
     omega (arith, inside, c.args.difo.now.code.ok.0)
 
 pub execute-requires : goal.execute-requires
-execute-requires g c = record {
-  runs = (c.loop-next.index, refl, runs g.M.Memory.holds g.M.Memory.is_over g.M.Memory.beside (object_of c.args.difo.now) c.args.firing.now c.args.memory.now c.args.machine.now c.loop-next.index c.loop-next.memory c.loop-next.machine c.loop-next.invariant c.index-instr.result.now (there g (goal.at.execute-requires g c).After-index-instr));
-  known = c.loop-next.invariant.known;
-  running = c.loop-next.invariant.running;
-}
+execute-requires g c =
+    let runs = runs g.M.Memory.holds g.M.Memory.is_over g.M.Memory.beside (object_of c.args.difo.now) c.args.firing.now c.args.memory.now c.args.machine.now c.loop-next.index c.loop-next.memory c.loop-next.machine c.loop-next.invariant c.index-instr.result.now (there g (goal.at.execute-requires g c).After-index-instr) in
+    record {
+      can = record { object = _; firing = _; vars = _; index = _; is_next = refl; runs = runs };
+      runs = (c.loop-next.index, refl, runs);
+      known = c.loop-next.invariant.known;
+      running = c.loop-next.invariant.running;
+    }
 
 pub end-requires : goal.end-requires
 end-requires g c = is_there g.M.Memory.holds g.M.Memory.is_over g.M.Memory.beside (object_of c.args.difo.now) c.args.firing.now c.args.memory.now c.args.machine.now c.loop-next.index c.loop-next.memory c.loop-next.machine c.loop-next.invariant c.index-instr.result.now (there g (goal.at.end-requires g c).After-index-instr) _ _ _ (rw c.in-Ok-Ends.field-0-is at c.in-Ok-Ends.ensures)

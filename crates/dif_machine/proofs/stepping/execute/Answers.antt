@@ -5,10 +5,10 @@ use Rattle.dif_machine.specs.Machine.{Seen}
 use Rattle.dif_machine.specs.Semantics.{Ends, Goes, Stuck, act, on, puts}
 use Rattle.dif_machine.specs.Sources.{built_ins}
 use Rattle.dif_machine.specs.Steps.Instructions.{CanExecute, ExecutesFor, ExecutesOn}
-use Rattle.dif_machine.specs.Vocabulary.{Firing, Flushts, Instr, Int, Ldga, MachineFault, Object, Reg, Text, Variables, object_of}
+use Rattle.dif_machine.specs.Vocabulary.{Firing, Flushts, Instr, Int, Ldga, MachineFault, Object, Reg, Text, Variables, at, object_of}
 use Rattle.dif_machine.specs.declared.onward.Onward.{Onward}
-use Rattle.dif_machine.proofs.Acting.{only_array, ret_there}
-use Rattle.dif_machine.proofs.Executing.{executed, goes, inside, still_lasts}
+use Rattle.dif_machine.proofs.{Acting.only_array, Fitting.some_there}
+use Rattle.dif_machine.proofs.Executing.{executed, goes, inside, still_lasts, there}
 use Rattle.dif_machine.proofs.Holding.{keeps_refl}
 use Rattle.dif_machine.proofs.stepping.execute.Given.{Over}
 use Rattle.dif_machine.proofs.stepping.execute.Goals.{Start}
@@ -30,9 +30,6 @@ module _ (g : Over) (c : Start g) where
   runs : (i : Instr) → c.args.instr.now ≡ i → act i o f frame vars ≢ Stuck
   runs i is = subst (λ i. act i o f frame vars ≢ Stuck) is c.requires.runs.2
 
-  can : (i : Instr) → c.args.instr.now ≡ i → CanExecute i c.args.next c.args.machine.now.frame
-  can i is = (o, f, vars, c.requires.runs.0, c.requires.runs.1, runs i is)
-
   -- the instruction is the one that was read
   variable_was : (i : Instr) → c.args.instr.now ≡ i → (result : Result Onward MachineFault) (left : g.row.M.Denot) (n : Seen)
       → ((o : Object) (f : Firing) → ExecutesOn g.M.Memory.holds g.M.Memory.is_over g.M.Memory.beside i c.args.next o f c.args.memory.now c.args.machine.now result left n)
@@ -48,50 +45,26 @@ module _ (g : Over) (c : Start g) where
       subst (λ i. ExecutesOn g.M.Memory.holds g.M.Memory.is_over g.M.Memory.beside i c.args.next o f c.args.memory.now c.args.machine.now result c.args.memory.now n) (sym is)
       (executed g.M.Memory.holds g.M.Memory.is_over g.M.Memory.beside o f c.args.memory.now c.args.machine.now g.met.M.Memory.stays c.args.next i result n c.requires.running e)
 
-pub alu-requires : goal.alu-requires
-alu-requires g c = can g (goal.at.alu-requires g c).Start _ c.in-Alu.is
-
 pub returns-in-Alu : goal.returns-in-Alu
 returns-in-Alu g c = was g (goal.at.returns-in-Alu g c).Start _ c.in-Alu.is _ _ (c.alu.ensures _ _)
-
-pub not-requires : goal.not-requires
-not-requires g c = can g (goal.at.not-requires g c).Start _ c.in-Not.is
 
 pub returns-in-Not : goal.returns-in-Not
 returns-in-Not g c = was g (goal.at.returns-in-Not g c).Start _ c.in-Not.is _ _ (c.not.ensures _ _)
 
-pub mov-requires : goal.mov-requires
-mov-requires g c = can g (goal.at.mov-requires g c).Start _ c.in-Mov.is
-
 pub returns-in-Mov : goal.returns-in-Mov
 returns-in-Mov g c = was g (goal.at.returns-in-Mov g c).Start _ c.in-Mov.is _ _ (c.mov.ensures _ _)
-
-pub cmp-requires : goal.cmp-requires
-cmp-requires g c = can g (goal.at.cmp-requires g c).Start _ c.in-Cmp.is
 
 pub returns-in-Cmp : goal.returns-in-Cmp
 returns-in-Cmp g c = was g (goal.at.returns-in-Cmp g c).Start _ c.in-Cmp.is _ _ (c.cmp.ensures _ _)
 
-pub tst-requires : goal.tst-requires
-tst-requires g c = can g (goal.at.tst-requires g c).Start _ c.in-Tst.is
-
 pub returns-in-Tst : goal.returns-in-Tst
 returns-in-Tst g c = was g (goal.at.returns-in-Tst g c).Start _ c.in-Tst.is _ _ (c.tst.ensures _ _)
-
-pub scmp-requires : goal.scmp-requires
-scmp-requires g c = can g (goal.at.scmp-requires g c).Start _ c.in-Scmp.is
 
 pub returns-in-Scmp : goal.returns-in-Scmp
 returns-in-Scmp g c = was g (goal.at.returns-in-Scmp g c).Start _ c.in-Scmp.is _ _ (c.scmp.ensures _ _)
 
-pub branch-machine-requires : goal.branch-machine-requires
-branch-machine-requires g c = can g (goal.at.branch-machine-requires g c).Start _ c.in-Branch.is
-
 pub returns-in-Branch : goal.returns-in-Branch
 returns-in-Branch g c = was g (goal.at.returns-in-Branch g c).Start _ c.in-Branch.is _ _ (c.branch-machine.ensures _ _)
-
-pub call-requires : goal.call-requires
-call-requires g c = can g (goal.at.call-requires g c).Start _ c.in-Call.is
 
 pub returns-in-Call : goal.returns-in-Call
 returns-in-Call g c = was g (goal.at.returns-in-Call g c).Start _ c.in-Call.is _ _ (c.call.ensures _ _)
@@ -108,17 +81,11 @@ returns-in-Flushts g c = was g (goal.at.returns-in-Flushts g c).Start _ c.in-Flu
 pub returns-in-Ret : goal.returns-in-Ret
 returns-in-Ret g c =
     let s = (goal.at.returns-in-Ret g c).Start in
-    let value = ret_there (o g s) (f g s) (frame g s) (vars g s) c.in-Ret.a (runs g s _ c.in-Ret.is) in
+    let value = some_there _ (there (at (frame g s).registers c.in-Ret.a) (λ value. Ends value (vars g s)) (runs g s _ c.in-Ret.is)) in
     was g s _ c.in-Ret.is _ _ (record { kept = keeps_refl _; lasting = still_lasts _ _ refl refl; known = λ k. k; stepped = λ index is_next vars. (value.0, value.1, ap (λ x. on x (λ value. Ends value vars)) value.1) })
-
-pub pushtr-requires : goal.pushtr-requires
-pushtr-requires g c = can g (goal.at.pushtr-requires g c).Start _ c.in-Pushtr.is
 
 pub returns-in-Pushtr : goal.returns-in-Pushtr
 returns-in-Pushtr g c = was g (goal.at.returns-in-Pushtr g c).Start _ c.in-Pushtr.is _ _ (c.pushtr.ensures _ _)
-
-pub pushtv-requires : goal.pushtv-requires
-pushtv-requires g c = can g (goal.at.pushtv-requires g c).Start _ c.in-Pushtv.is
 
 pub returns-in-Pushtv : goal.returns-in-Pushtv
 returns-in-Pushtv g c = was g (goal.at.returns-in-Pushtv g c).Start _ c.in-Pushtv.is _ _ (c.pushtv.ensures _ _)
@@ -142,43 +109,25 @@ pub returns-in-Ldgs : goal.returns-in-Ldgs
 returns-in-Ldgs g c = was g (goal.at.returns-in-Ldgs g c).Start _ c.in-Ldgs.is _ _ (c.ldgs.ensures _)
 
 pub ldga-requires : goal.ldga-requires
-ldga-requires g c = let s = (goal.at.ldga-requires g c).Start in can g s _ (one_array g s _ _ _ c.in-Ldga.is)
+ldga-requires g c = subst (λ i. CanExecute i c.args.next c.args.machine.now.frame) (one_array g (goal.at.ldga-requires g c).Start _ _ _ c.in-Ldga.is) c.requires.can
 
 pub returns-in-Ldga : goal.returns-in-Ldga
 returns-in-Ldga g c = let s = (goal.at.returns-in-Ldga g c).Start in was g s _ (one_array g s _ _ _ c.in-Ldga.is) _ _ (c.ldga.ensures _)
 
-pub load-requires : goal.load-requires
-load-requires g c = record { can = can g (goal.at.load-requires g c).Start _ c.in-Ldts.is; running = c.requires.running }
-
 pub returns-in-Ldts : goal.returns-in-Ldts
 returns-in-Ldts g c = variable_was g (goal.at.returns-in-Ldts g c).Start _ c.in-Ldts.is _ _ _ c.load.ensures
-
-pub store-requires : goal.store-requires
-store-requires g c = record { can = can g (goal.at.store-requires g c).Start _ c.in-Stts.is; running = c.requires.running }
 
 pub returns-in-Stts : goal.returns-in-Stts
 returns-in-Stts g c = variable_was g (goal.at.returns-in-Stts g c).Start _ c.in-Stts.is _ _ _ c.store.ensures
 
-pub load-requires-in-Ldls : goal.load-requires-in-Ldls
-load-requires-in-Ldls g c = record { can = can g (goal.at.load-requires-in-Ldls g c).Start _ c.in-Ldls.is; running = c.requires.running }
-
 pub returns-in-Ldls : goal.returns-in-Ldls
 returns-in-Ldls g c = variable_was g (goal.at.returns-in-Ldls g c).Start _ c.in-Ldls.is _ _ _ c.load-in-Ldls.ensures
-
-pub store-requires-in-Stls : goal.store-requires-in-Stls
-store-requires-in-Stls g c = record { can = can g (goal.at.store-requires-in-Stls g c).Start _ c.in-Stls.is; running = c.requires.running }
 
 pub returns-in-Stls : goal.returns-in-Stls
 returns-in-Stls g c = variable_was g (goal.at.returns-in-Stls g c).Start _ c.in-Stls.is _ _ _ c.store-in-Stls.ensures
 
-pub load-requires-in-Ldtaa : goal.load-requires-in-Ldtaa
-load-requires-in-Ldtaa g c = record { can = can g (goal.at.load-requires-in-Ldtaa g c).Start _ c.in-Ldtaa.is; running = c.requires.running }
-
 pub returns-in-Ldtaa : goal.returns-in-Ldtaa
 returns-in-Ldtaa g c = variable_was g (goal.at.returns-in-Ldtaa g c).Start _ c.in-Ldtaa.is _ _ _ c.load-in-Ldtaa.ensures
-
-pub store-requires-in-Sttaa : goal.store-requires-in-Sttaa
-store-requires-in-Sttaa g c = record { can = can g (goal.at.store-requires-in-Sttaa g c).Start _ c.in-Sttaa.is; running = c.requires.running }
 
 pub returns-in-Sttaa : goal.returns-in-Sttaa
 returns-in-Sttaa g c = variable_was g (goal.at.returns-in-Sttaa g c).Start _ c.in-Sttaa.is _ _ _ c.store-in-Sttaa.ensures

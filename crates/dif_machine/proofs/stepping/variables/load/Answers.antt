@@ -15,4 +15,4 @@ returns g c = λ o f.
     let k = c.load.ensures.loads in
     loaded g.M.Memory.holds g.M.Memory.is_over g.M.Memory.beside o f c.args.memory.now c.args.machine.now g.met.M.Memory.stays c.requires.running c.args.next (load_of c.args.variable c.args.d) c.args.d _ _ _ _ _ c.load.ensures.grows k.same c.in_ok-word.ensures.loads.word c.put.ensures (λ index is_next.
     let here = can_here (load_of c.args.variable c.args.d) c.args.next c.args.machine.now.frame c.requires.can index is_next in
-    loads (at_index c.args.machine.now.frame index) here.2 _ here.0 o here.1 f c.args.variable c.args.d here.3)
+    loads (at_index c.args.machine.now.frame index) c.requires.can.vars _ c.requires.can.object o c.requires.can.firing f c.args.variable c.args.d here)

@@ -10,20 +10,21 @@ use Rattle.dif_machine.proofs.stepping.variables.store.Goals as goal
 pub word-word-requires : goal.word-word-requires
 word-word-requires g c =
     let can = c.requires.can in
-    stored_there (at_index c.args.machine.now.frame can.3) can.2 can.2 can.0 can.0 can.1 can.1 c.args.variable c.args.a can.5
+    stored_there (at_index c.args.machine.now.frame can.index) can.vars can.vars can.object can.object can.firing can.firing c.args.variable c.args.a can.runs
 
 pub store-requires-clause-kind : goal.store-requires-clause-kind
 store-requires-clause-kind g c =
     let can = c.requires.can in
-    stored_kind (at_index c.args.machine.now.frame can.3) can.2 can.2 can.0 can.0 can.1 can.1 c.args.variable c.args.a _ can.5 c.word-word.ensures.is
+    stored_kind (at_index c.args.machine.now.frame can.index) can.vars can.vars can.object can.object can.firing can.firing c.args.variable c.args.a can.runs _ c.word-word.ensures.is
 
 pub store-requires-clause-over : goal.store-requires-clause-over
 store-requires-clause-over g c = (g.met.M.Memory.stays c.args.memory.now c.args.machine.now.lasting c.args.machine.now.texts c.requires.running.over c.requires.running.among).0
 
 pub returns : goal.returns
 returns g c = λ o f index is_next.
-    let here = can_here (store_of c.args.variable c.args.a) c.args.next c.args.machine.now.frame c.requires.can index is_next in
-    let acts = stores (at_index c.args.machine.now.frame index) here.2 (g.M.Memory.holds c.args.memory.now c.args.machine.now.texts) here.0 o here.1 f c.args.variable c.args.a _ here.3 c.word-word.ensures.is in
+    let can = c.requires.can in
+    let here = can_here (store_of c.args.variable c.args.a) c.args.next c.args.machine.now.frame can index is_next in
+    let acts = stores (at_index c.args.machine.now.frame index) can.vars (g.M.Memory.holds c.args.memory.now c.args.machine.now.texts) can.object o can.firing f c.args.variable c.args.a here _ c.word-word.ensures.is in
     let grows = c.store.ensures.grows in
     let holds = (λ j. g.M.Memory.holds c.store.new.memory (c.store.ensures.texts j)) ∙ c.in_ok-store.ensures.stores.ok in
     record {
