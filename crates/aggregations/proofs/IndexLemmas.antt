@@ -1,6 +1,6 @@
 -- An entry that is found by its index among the entries.
-use Rattle.std.specs.Prelude.{◌≡◌, ◌<◌, ◌+◌, ◌≤◌, ℕ, zero, suc, ℤ, List, [], ◌∷◌, Option}
-use Rattle.std.specs.Prelude.{Some, length, slice_get, sum_by, get_or, set, ⊤, Result, OnOk}
+use Rattle.std.specs.Prelude.{◌≡◌, ◌<◌, ◌+◌, ◌≤◌, ℕ, zero, suc, ℤ, List, [], ◌∷◌, Option, Some}
+use Rattle.std.specs.Prelude.{length, slice_get, sum_by, get_or, set, ⊤, Result, OnOk}
 use Rattle.std.proofs.Common.{refl, sym, ap, ◌∙◌, subst, arith, cond}
 use Rattle.std.specs.declared.alloc.AllocError.{AllocError}
 use Rattle.std.specs.Map.{lookup, values_of}
@@ -12,14 +12,13 @@ use Rattle.std.proofs.lemmas.List.Sums.{get_or-le-sum_by, sum_by-set}
 use Rattle.indexmap.proofs.CallerLemmas.{updates-with_value_at}
 use Rattle.indexmap.specs.IndexMap.{IndexMap, IsUnique}
 use Rattle.indexmap.specs.Layout.{set_value_at}
-use Rattle.aggregations.specs.Vocabulary.{AggFn, KeyPart}
+use Rattle.aggregations.specs.Vocabulary.{AggFn, KeyPart, AllOrNothing, IsAt, same_key}
 use Rattle.aggregations.specs.declared.held.Held.{Held}
 use Rattle.aggregations.specs.Values.{count_in}
 use Rattle.aggregations.specs.Steps.Entries.{Adds, Joins, Notes, Puts, Takes}
 use Rattle.aggregations.specs.Steps.Values.{TakesBoth, TakesOne}
 use Rattle.aggregations.specs.Table.{Aggregation, count_of}
-use Rattle.aggregations.specs.Vocabulary.{AllOrNothing, IsAt, same_key}
-use Rattle.aggregations.proofs.TableLemmas.{joins_there, push_some}
+use Rattle.aggregations.proofs.TableLemmas.{empty_front, push_some}
 
 -- the value that is there already
 pub set_same : (es : List (List KeyPart × Held)) (i : ℕ) (key : List KeyPart) (held : Held) → slice_get es i ≡ Some (key, held) → set_value_at es i held ≡ es
@@ -61,9 +60,6 @@ at_view m now i key is at = subst (λ (a : Aggregation). IsAt same_key a.entries
 
 -- ---- one argument more, or those of another entry
 
-notes_there : (f : AggFn) (old : Held) (arg : ℤ) (new : Held) → TakesOne old arg new → Notes f (Some old) arg (Some new)
-notes_there f old arg new takes args is = (push_some args arg, takes f args is.1)
-
 -- where an aggregation's entries are in a map
 module _ {S : Type 0} (m : IndexMap (List KeyPart) Held S) (f : AggFn) (old : Aggregation) (is : ◌≡◌ {A = Aggregation} (record { function = f; entries = m.entries }) old)
     (unique : IsUnique same_key m) (i : ℕ) (key k : List KeyPart) (held now : Held) (at : IsAt same_key old.entries i key) (there : slice_get m.entries i ≡ Some (k, held)) where
@@ -89,7 +85,7 @@ module _ {S : Type 0} (m : IndexMap (List KeyPart) Held S) (f : AggFn) (old : Ag
   pub adds_at : (arg : ℤ) (r : Result ⊤ AllocError) → AllOrNothing r held now (TakesOne held arg now) → count_in now ≤ count_in held + 1 → Adds old (seen (set_value_at es i now)) key arg r
   adds_at arg r noted more = subst (λ (a : Aggregation). Adds a (seen (set_value_at es i now)) key arg r) is (record {
     function = refl;
-    ok = on_ok_weaker r (λ takes. puts (λ o n. Notes f o arg n) (notes_there f held arg now takes)) noted.ok;
+    ok = on_ok_weaker r (λ takes. puts (λ o n. Notes f o arg n) (λ args is. (push_some args arg, takes f args is.1))) noted.ok;
     count = omega (arith, sum_set es i k held now there, more);
     err = on_err_weaker r (λ same. ap (λ h. seen (set_value_at es i h)) same ∙ ap seen (set_same es i k held there)) noted.err;
   })
@@ -97,6 +93,6 @@ module _ {S : Type 0} (m : IndexMap (List KeyPart) Held S) (f : AggFn) (old : Ag
   pub takes_at : (more : Held) (r : Result ⊤ AllocError) → OnOk r (TakesBoth held more now) → count_in now ≤ count_in held + count_in more → Takes old (seen (set_value_at es i now)) key more r
   takes_at more r joined most = subst (λ (a : Aggregation). Takes a (seen (set_value_at es i now)) key more r) is (record {
     function = refl;
-    ok = on_ok_weaker r (λ both. puts (λ o n. Joins f o (Some more) n) (joins_there f held more now both)) joined;
+    ok = on_ok_weaker r (λ both. puts (λ o n. Joins f o (Some more) n) (λ xs ys a b. (λ e. a.0 (empty_front xs ys e), both f xs ys a.1 b.1))) joined;
     count = omega (arith, sum_set es i k held now there, most);
   })

@@ -5,8 +5,6 @@ pub mod MergeLemmas
 pub mod OrderLemmas
 pub mod IndexLemmas
 mod Measures
-pub mod RangeLemmas
 pub mod RankLemmas
-pub mod SpanLemmas
 pub mod TableLemmas
 pub mod ValueLemmas

@@ -5,12 +5,13 @@ use Rattle.std.proofs.Common.{ap, ◌∙◌, subst, arith, sum_by}
 use Rattle.std.specs.Prelude.{slice_get}
 use Rattle.std.specs.Option.{option_map}
 use Rattle.std.proofs.lemmas.Bool.{cases_eq}
-use Rattle.std.proofs.lemmas.Option.{same_Some, slice_get-get_or, slice_get-map, slice_get_read, slice_get_within}
-use Rattle.std.proofs.Math.Seq.{map-set_same, get_or-append_seam}
+use Rattle.std.proofs.lemmas.Grind.{common_steps}
+use Rattle.std.proofs.lemmas.Option.{gets, same_Some, slice_get-get_or, slice_get-map, slice_get_within}
+use Rattle.std.proofs.Math.Seq.{map-set_same}
 use Rattle.std.proofs.lemmas.List.{append_assoc, append-nil, length-append, length-map}
 use Rattle.aggregations.specs.Vocabulary.{IsDistinct, AggFn, KeyPart, same_key}
 use Rattle.std.specs.Map.{lookup, keys_of, values_of}
-use Rattle.std.proofs.lemmas.List.Sums.{sum_by-append, sum_by-cons, sum_by-set}
+use Rattle.std.proofs.lemmas.List.Sums.{sum_by-cons, sum_by_push, sum_by-set}
 use Rattle.std.proofs.lemmas.Map.{lookup-none}
 use Rattle.std.proofs.lemmas.Map.Entries.{lookup_head, lookup_tail, none_past_head}
 use Rattle.std.proofs.lemmas.Map.Keys.{IsDistinct-tail}
@@ -40,14 +41,11 @@ pub merging_more : (first all now next : Aggregation) (key : List KeyPart) (p : 
 merging_more first all now next key p rest m kept more puts = record {
   function = kept ∙ m.function;
   apart = IsDistinct-tail same_key key (keys_of rest) m.apart;
-  todo = λ k q e. todo k q e (same_key key k) refl;
+  todo = λ k q e. grind (arith, same_key_equiv.symm k key, gone k, puts.others k, m.todo k q);
   done = λ k e. done k e (same_key key k) refl;
   held = let sums = sum_by-cons count_in p (values_of rest) in let h = m.held in omega arith;
 }
   where
-    exact : (k : List KeyPart) → same_key key k ≡ true → key ≡ k
-    exact k e = (same_key_decides key k).0 e
-
     gone : (k : List KeyPart) → same_key key k ≡ true → lookup (same_key k) rest ≡ None
     gone k e = lookup-none (same_key k) rest (none_past_head same_key_equiv k (key, p) rest m.apart (same_key_equiv.symm k key ∙ e))
 
@@ -57,15 +55,10 @@ merging_more first all now next key p rest m kept more puts = record {
     found : (k : List KeyPart) → same_key key k ≡ true → lookup (same_key k) ((key, p) ∷ rest) ≡ Some p
     found k e = lookup_head (same_key k) (key, p) rest (same_key_equiv.symm k key ∙ e)
 
-    todo : (k : List KeyPart) (q : Held) → lookup (same_key k) rest ≡ Some q → (b : Bool) → same_key key k ≡ b → (entry_at k all ≡ Some q) × (entry_at k next ≡ entry_at k first)
-    todo k q e true t = let none = gone k t in cc
-    todo k q e false t = let old = m.todo k q (passed k t ∙ e) in (old.0, puts.others k t ∙ old.1)
-
     done : (k : List KeyPart) → lookup (same_key k) rest ≡ None → (b : Bool) → same_key key k ≡ b → Joins first.function (entry_at k first) (entry_at k all) (entry_at k next)
     done k e true t =
         let old = m.todo k p (found k t) in
-        let here = subst (λ q. Joins first.function (entry_at q now) (Some p) (entry_at q next)) (exact k t) puts.here in
-        λ xs ys a b. here xs ys (subst (λ o. IsEntry first.function o xs) (sym old.1) a) (subst (λ o. IsEntry first.function o ys) old.0 b)
+        rw (old.0, ← old.1) (subst (λ q. Joins first.function (entry_at q now) (Some p) (entry_at q next)) ((same_key_decides key k).0 t) puts.here)
     done k e false t = subst (λ o. Joins first.function (entry_at k first) (entry_at k all) o) (sym (puts.others k t)) (m.done k (passed k t ∙ e))
 
 -- ---- tables
@@ -107,15 +100,10 @@ module _ (first all now rest left : List Aggregation) (more : Aggregation) (same
       omega (arith, long, within_all)
 
   more_there : slice_get all index ≡ Some more
-  more_there =
-      slice_get_read all (length all) index more refl within_all
-      (sym (subst (λ k. get_or all k more ≡ more) (sym at) (ap (λ l. get_or l (length left) more) whole ∙ get_or-append_seam left more m.gone more)))
+  more_there = grind (arith, common_steps, gets, whole, within_all)
 
   less : count_held rest ≡ count_held left + count_of more
-  less =
-      let joined = ap (sum_by count_of) cut ∙ sum_by-append count_of left (more ∷ []) in
-      let one = sum_by-cons count_of more [] in
-      omega (arith, joined, one)
+  less = ap (sum_by count_of) cut ∙ sum_by_push count_of left more
 
   module _ (old : Aggregation) (was : old ≡ get_or now index old) where
     old_there : slice_get now index ≡ Some old

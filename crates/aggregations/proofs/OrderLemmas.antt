@@ -1,9 +1,9 @@
 -- What a table stands for doesn't depend on the order of the contributions.
-use Rattle.std.proofs.Common.{◌≡◌, ℕ, zero, suc, ◌+◌, ◌<◌, true, false, cond, List}
-use Rattle.std.proofs.Common.{[], ◌∷◌, length, get_or, All, Contains, sum_by, Option}
-use Rattle.std.proofs.Common.{None, Some, refl, sym, ap, ◌∙◌, subst, ⊎_elim, zero-add, arith, map}
-use Rattle.std.proofs.Common.{filter}
-use Rattle.std.specs.Prelude.{ℤ, pos, negsuc, ◌+ℤ◌, ◌≤ℤ◌, slice_get}
+use Rattle.std.proofs.Common.{◌≡◌, ℕ, ◌+◌, ◌<◌, true, false, cond, List, [], ◌∷◌, length, get_or}
+use Rattle.std.proofs.Common.{All, Contains, sum_by, Option, None, Some, refl, sym, ap, ◌∙◌, ⊎_elim}
+use Rattle.std.proofs.Common.{zero-add, arith, map, filter}
+use Rattle.std.specs.Prelude.{ℤ, pos, ◌+ℤ◌, ◌≤ℤ◌, slice_get}
+use borrow.Author.Differences.{down, up}
 use Rattle.std.specs.List.{range_with_len}
 use Rattle.std.specs.Ordering.{int_eq}
 use Rattle.std.proofs.lemmas.Bool.Decides.{Decides-int_eq}
@@ -24,8 +24,8 @@ use Rattle.aggregations.specs.declared.held.Held.TheVariants.{Mean, Counts}
 use Rattle.aggregations.specs.Buckets.{buckets, is_in, counts_of}
 use Rattle.aggregations.specs.Values.{total, IsValue}
 use Rattle.aggregations.proofs.Measures.{is_for, IsSum}
-use Rattle.aggregations.specs.Table.{Contribution, Aggregation, SameItems, arguments_of}
-use Rattle.aggregations.specs.Table.{entry_at, IsEntry, HasEntry, StandsFor}
+use Rattle.aggregations.specs.Table.{Contribution, Aggregation, SameItems, arguments_of, entry_at}
+use Rattle.aggregations.specs.Table.{IsEntry, HasEntry, StandsFor}
 use Rattle.aggregations.proofs.HistogramLemmas.{seen}
 
 ones : {A : Type 0} (xs : List A) → sum_by (λ x. 1) xs ≡ length xs
@@ -35,64 +35,41 @@ ones (x ∷ xs) = let here = sum_by-cons (λ x. 1) x xs in let more = ones xs in
 pub same_length : {A : Type 0} (xs ys : List A) → SameItems xs ys → length xs ≡ length ys
 same_length xs ys same = sym (ones xs) ∙ same (λ x. 1) ∙ ones ys
 
--- a whole number as a difference
-up_of : ℤ → ℕ
-up_of (pos n) = n
-up_of (negsuc n) = 0
-
-down_of : ℤ → ℕ
-down_of (pos n) = 0
-down_of (negsuc n) = suc n
-
-apart : (x : ℤ) → x +ℤ pos (down_of x) ≡ pos (up_of x)
-unfolding up_of down_of
-apart (pos n) = omega (arith, ints)
-apart (negsuc n) = omega (arith, ints)
-
-totals : (xs : List ℤ) → total xs +ℤ pos (sum_by down_of xs) ≡ pos (sum_by up_of xs)
+-- a total, by what is above zero and what is below
+totals : (xs : List ℤ) → total xs +ℤ pos (sum_by down xs) ≡ pos (sum_by up xs)
 totals [] = omega (arith, ints)
 totals (x ∷ xs) =
-    let a = sum_by-cons down_of x xs in
-    let b = sum_by-cons up_of x xs in
+    let below = sum_by-cons down x xs in
+    let above = sum_by-cons up x xs in
     let more = totals xs in
-    let here = apart x in
     omega (arith, ints)
 
-pub same_total : (xs ys : List ℤ) → SameItems xs ys → total xs ≡ total ys
+same_total : (xs ys : List ℤ) → SameItems xs ys → total xs ≡ total ys
 same_total xs ys same =
-    let a = totals xs in
-    let b = totals ys in
-    let c = same down_of in
-    let d = same up_of in
+    let one = totals xs in
+    let other = totals ys in
+    let below = same down in
+    let above = same up in
     omega (arith, ints)
 
 -- membership and a bound, as sums
 hits : ℤ → ℤ → ℕ
 hits m y = cond (int_eq y m) 1 0
 
-hit : (m : ℤ) → 0 < hits m m
-unfolding hits
-hit m = subst (λ b. 0 < cond b 1 0) (sym (int_eq_equiv.refl m)) (omega arith)
-
-found : (m y : ℤ) → 0 < hits m y → y ≡ m
-unfolding hits
-found m y h = ⊎_elim (λ (e : int_eq y m ≡ true). (Decides-int_eq y m).0 e)
-    (λ (e : int_eq y m ≡ false). let none : hits m y ≡ 0 = ap (λ b. cond b 1 0) e in absurd (omega arith))
-    (cases_Bool (int_eq y m))
-
 contains_from_sum : (m : ℤ) (xs : List ℤ) → 0 < sum_by (hits m) xs → Contains xs m
+unfolding hits
 contains_from_sum m [] h = absurd (omega arith)
-contains_from_sum m (x ∷ xs) h =
-    let e = sum_by-cons (hits m) x xs in
-    elim (hits m x) as (λ n. hits m x ≡ n → Contains (x ∷ xs) m) [
-      | zero ↦ λ none. Contains-append_right (x ∷ []) xs m (contains_from_sum m xs (omega arith))
-      | suc n ↦ λ some. (0, omega arith, found m x (omega arith))
-    ] refl
+contains_from_sum m (x ∷ xs) h = ⊎_elim
+    (λ (e : int_eq x m ≡ true). (0, omega arith, (Decides-int_eq x m).0 e))
+    (λ (e : int_eq x m ≡ false). Contains-append_right (x ∷ []) xs m (contains_from_sum m xs
+    (let none : hits m x ≡ 0 = ap (λ b. cond b 1 0) e in let rest = sum_by-cons (hits m) x xs in omega arith)))
+    (cases_Bool (int_eq x m))
 
 sum_from_contains : (m : ℤ) (xs : List ℤ) → Contains xs m → 0 < sum_by (hits m) xs
+unfolding hits
 sum_from_contains m xs h =
     let le = get_or-le-sum_by (hits m) xs h.0 m h.1 in
-    let one : 0 < hits m (get_or xs h.0 m) = subst (λ y. 0 < hits m y) (sym h.2) (hit m) in
+    let one : hits m (get_or xs h.0 m) ≡ 1 = ap (hits m) h.2 ∙ ap (λ b. cond b 1 0) (int_eq_equiv.refl m) in
     omega arith
 
 pub same_contains : (m : ℤ) (xs ys : List ℤ) → SameItems xs ys → Contains xs m → Contains ys m

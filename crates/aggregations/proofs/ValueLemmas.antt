@@ -15,12 +15,10 @@ use Rattle.aggregations.specs.declared.held.Held.TheVariants.{Counted, Summed, L
 use Rattle.aggregations.specs.declared.held.Held.TheVariants.{Mean, Counts}
 use Rattle.aggregations.specs.Histograms.{Histogram, histogram_of}
 use Rattle.aggregations.specs.Buckets.{buckets, counts_of, scale_of}
-use Rattle.aggregations.specs.Values.{total, IsValue}
+use Rattle.aggregations.specs.Values.{total, IsValue, count_in}
 use Rattle.aggregations.proofs.HistogramLemmas.{none_used}
 use Rattle.aggregations.proofs.Measures.{IsSum, IsLeast, IsGreatest}
-use Rattle.aggregations.specs.Steps.Values.{TakesOne}
-use Rattle.aggregations.specs.Values.{count_in}
-use Rattle.aggregations.specs.Steps.Values.{TakesBoth}
+use Rattle.aggregations.specs.Steps.Values.{TakesOne, TakesBoth}
 use Rattle.aggregations.specs.Steps.Held.{after, count_of, number_of}
 use Rattle.aggregations.specs.Figures.{figure_of, histogram_in}
 use Rattle.std.proofs.lemmas.Option.{same_Some}
@@ -62,18 +60,11 @@ sum_noted s x xs a =
     let e : total xs +ℤ x ≡ total (xs ++ x ∷ []) = omega (arith, ints) in
     ap (λ z. int_wrap w64 (z +ℤ x)) a ∙ int_wrap-add_left w64 (total xs) x ∙ ap (int_wrap w64) e
 
-pub counts_noted : (f : AggFn) (h new : Histogram) (x : ℤ) (xs : List ℤ)
-    → ((args : List ℤ) → h ≡ histogram_of h.scale args → new ≡ histogram_of h.scale (args ++ x ∷ []))
-    → IsValue f (Counts h) xs → IsValue f (Counts new) (xs ++ x ∷ [])
-counts_noted Quantize h new x xs step is = let same : h.scale ≡ Powers = ap (λ h. h.scale) is in
-    subst (λ g. new ≡ histogram_of g (xs ++ x ∷ [])) same (step xs (subst (λ g. h ≡ histogram_of g xs) (sym same) is))
-counts_noted (Lquantize r) h new x xs step is = let same : h.scale ≡ Steps r = ap (λ h. h.scale) is in
-    subst (λ g. new ≡ histogram_of g (xs ++ x ∷ [])) same (step xs (subst (λ g. h ≡ histogram_of g xs) (sym same) is))
-counts_noted _ h new x xs step is = absurd is
-
-pub noted_as : (old new p q : Held) (x : ℤ) → old ≡ p → new ≡ q → TakesOne p x q → TakesOne old x new
-noted_as old new p q x was is takes =
-    subst (λ h. TakesOne h x new) (sym was) (subst (λ h. TakesOne p x h) (sym is) takes)
+pub counts_noted : (h new : Histogram) (x : ℤ)
+    → ((scale : Scale) (args : List ℤ) → h ≡ histogram_of scale args → new ≡ histogram_of scale (args ++ x ∷ [])) → TakesOne (Counts h) x (Counts new)
+counts_noted h new x step Quantize xs is = step Powers xs is
+counts_noted h new x step (Lquantize r) xs is = step (Steps r) xs is
+counts_noted h new x step _ xs is = absurd is
 
 -- a function with a scale makes histograms
 pub scaled_value : (f : AggFn) (scale : Scale) (h : Histogram) (args : List ℤ) → scale_of f ≡ Some scale → h ≡ histogram_of scale args → IsValue f (Counts h) args
@@ -82,36 +73,27 @@ scaled_value (Lquantize r) scale h args e is = is ∙ ap (λ s. histogram_of s a
 scaled_value _ scale h args e is = absurd cc
 
 -- a histogram without arguments holds no counts
-pub sum-none : (f : Scale) → sum (counts_of f []) ≡ 0
-sum-none f = none_used (range_with_len 0 (buckets f))
+pub sum_none : (f : Scale) → sum (counts_of f []) ≡ 0
+sum_none f = none_used (range_with_len 0 (buckets f))
 
 -- ---- lists joined, by what is held
 
-pub both_as : (old other new p q : Held) → old ≡ p → new ≡ q → TakesBoth p other q → TakesBoth old other new
-both_as old other new p q was is takes =
-    subst (λ h. TakesBoth h other new) (sym was) (subst (λ h. TakesBoth p other h) (sym is) takes)
-
-pub counts_joined : (f : AggFn) (h more new : Histogram) (xs ys : List ℤ)
-    → ((scale : Scale) (xs ys : List ℤ) → h ≡ histogram_of scale xs → more ≡ histogram_of scale ys → new ≡ histogram_of scale (xs ++ ys))
-    → IsValue f (Counts h) xs → IsValue f (Counts more) ys → IsValue f (Counts new) (xs ++ ys)
-counts_joined Quantize h more new xs ys step a b = step Powers xs ys a b
-counts_joined (Lquantize r) h more new xs ys step a b = step (Steps r) xs ys a b
-counts_joined _ h more new xs ys step a b = absurd a
+pub counts_joined : (h more new : Histogram)
+    → ((scale : Scale) (xs ys : List ℤ) → h ≡ histogram_of scale xs → more ≡ histogram_of scale ys → new ≡ histogram_of scale (xs ++ ys)) → TakesBoth (Counts h) (Counts more) (Counts new)
+counts_joined h more new step Quantize xs ys a b = step Powers xs ys a b
+counts_joined h more new step (Lquantize r) xs ys a b = step (Steps r) xs ys a b
+counts_joined h more new step _ xs ys a b = absurd a
 
 -- the histogram that is held
 pub held_histogram : (held : Held) (h : Histogram) → histogram_in (figure_of held) ≡ Some h → held ≡ Counts h
 held_histogram (Counts x) h is = ap Counts (same_Some x h is)
 held_histogram _ h is = cc
 
-pub no_histogram : (held : Held) → histogram_in (figure_of held) ≡ None → (h : Histogram) → held ≡ Counts h → ⊥
-no_histogram held none h is = let some : histogram_in (figure_of held) ≡ Some h = ap (λ x. histogram_in (figure_of x)) is in cc
-
-pub only_counts : (f : AggFn) (h : Histogram) (other : Held) (xs ys : List ℤ) → ((x : Histogram) → other ≡ Counts x → ⊥) → IsValue f (Counts h) xs → IsValue f other ys → ⊥
-only_counts Quantize h (Counts x) xs ys none a b = none x refl
-only_counts (Lquantize r) h (Counts x) xs ys none a b = none x refl
-only_counts Quantize h _ xs ys none a b = b
-only_counts (Lquantize r) h _ xs ys none a b = b
-only_counts _ h other xs ys none a b = a
+pub only_counts : (h : Histogram) (other new : Held) → histogram_in (figure_of other) ≡ None → TakesBoth (Counts h) other new
+only_counts h (Counts x) new none f xs ys a b = cc
+only_counts h _ new none Quantize xs ys a b = absurd b
+only_counts h _ new none (Lquantize r) xs ys a b = absurd b
+only_counts h _ new none _ xs ys a b = absurd a
 
 -- ---- what is held after more, where that is no histogram
 

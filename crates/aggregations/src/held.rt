@@ -53,6 +53,7 @@ impl Held {
     }
 
     // Takes this many more arguments, all equal to this number. A histogram stays as it is.
+    #[tactic(auto, using(std::proofs::lemmas::Int::wrapping_add_is))]
     pub(crate) fn take(&mut self, number: i64, count: u64)
         requires { spec.count_of self.old + count ≤ 2 ^ 52 }
         ensures { self.new ≡ spec.after self.old number count }

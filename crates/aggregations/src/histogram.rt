@@ -41,6 +41,7 @@ impl Histogram {
     ghost use Rattle.aggregations.specs.Steps.Histograms.{with_more};
 
     // A histogram without arguments.
+    #[tactic(auto, using(crate::proofs::HistogramLemmas::kept_none))]
     pub(crate) fn new(alloc: Global, scale: Scale) -> Histogram
         ensures { result ≡ histogram_of scale [] }
     {
@@ -55,6 +56,7 @@ impl Histogram {
     /// ```text
     /// histogram.scale(); // Scale::Powers
     /// ```
+    #[tactic(auto, using(crate::proofs::HistogramLemmas::table_long))]
     pub fn scale(&self) -> Scale
         ensures value { result ≡ self.now.scale }
         ensures long { length self.now.counts ≡ buckets result }
@@ -68,6 +70,7 @@ impl Histogram {
     /// // of `quantize`, after the arguments 2 and 3
     /// histogram.count_at(65); // 2: the bucket of 2
     /// ```
+    #[tactic(auto, using(crate::proofs::HistogramLemmas::count_kept))]
     pub fn count_at(&self, bucket: u32) -> u64
         ensures { result ≡ slice_index self.now.counts bucket }
     {
@@ -79,6 +82,7 @@ impl Histogram {
     /// ```text
     /// histogram.total(); // 2, after the arguments 2 and 3
     /// ```
+    #[tactic(auto, using(crate::proofs::HistogramLemmas::sum_used))]
     pub fn total(&self) -> u64
         ensures value { result ≡ sum self.now.counts }
         ensures few { result ≤ 2 ^ 52 }
@@ -130,10 +134,9 @@ impl Histogram {
     // Takes one more argument.
     pub(crate) fn note(&mut self, arg: i64) -> Result<(), AllocError>
         requires { sum self.old.counts < 2 ^ 52 }
-        ensures value { AllOrNothing result self.old self.new ((args : List ℤ)
-            → self.old ≡ histogram_of self.old.scale args
-            → self.new ≡ histogram_of self.old.scale (args ++ arg ∷ [])) }
-        ensures scale { self.new.scale ≡ self.old.scale }
+        ensures value { AllOrNothing result self.old self.new ((scale : Scale) (args : List ℤ)
+            → self.old ≡ histogram_of scale args
+            → self.new ≡ histogram_of scale (args ++ arg ∷ [])) }
         ensures count { sum self.new.counts ≤ sum self.old.counts + 1 }
     {
         let bucket = self.scale.bucket_of(arg);
@@ -158,11 +161,11 @@ impl Histogram {
 }
 
 // Adds to what a bucket has.
+#[tactic(auto, using(std::proofs::lemmas::Option::gets))]
 fn put_more(used: &mut IndexMap<u32, u64>, bucket: u32, more: u64) -> Result<(), AllocError>
     requires { used_at used.old.entries bucket + more < 2 ^ 64 }
     ensures ok { OnOk result (Updates nat_eq used.old used.new bucket
-        (Some (used_at used.old.entries bucket + more))) }
-    ensures unique { OnOk result (IsUnique nat_eq used.new) }
+        (Some (used_at used.old.entries bucket + more)) × IsUnique nat_eq used.new) }
     ensures err { OnErr result (used.new.entries ≡ used.old.entries) }
 {
     let Some(index) = index_of(used, bucket) else {

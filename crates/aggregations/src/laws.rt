@@ -13,18 +13,21 @@ pub fn order_plays_no_part()
 {}
 
 /// Arguments, if there are any, have a value.
+#[tactic(auto, using(crate::proofs::ValueLemmas::value_exists))]
 pub fn has_value()
     ensures { (function : AggFn) (args : List ℤ)
         → args ≢ [] → (held : Held) × IsValue function held args }
 {}
 
 /// Arguments have one value at most.
+#[tactic(auto, using(crate::proofs::EntryLemmas::one_value))]
 pub fn one_value()
     ensures { (function : AggFn) (args : List ℤ) (x y : Held)
         → IsValue function x args → IsValue function y args → x ≡ y }
 {}
 
 /// Each number is in one bucket of a scale, and in no other.
+#[tactic(auto, using(crate::proofs::BucketLemmas::one_bucket))]
 pub fn one_bucket()
     ensures { (scale : Scale) (x : ℤ) → (bucket : ℕ) × (bucket < buckets scale)
         × ((b : ℕ) → b < buckets scale → is_in scale b x ≡ (b == bucket)) }

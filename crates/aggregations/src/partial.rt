@@ -33,6 +33,7 @@ impl Partial {
     ghost use Rattle.aggregations.specs.Steps.Values.{TakesBoth, TakesOne};
 
     // The value of one argument.
+    #[tactic(auto, using(crate::proofs::ValueLemmas::sum_none))]
     pub(crate) fn of_one(alloc: Global, function: AggFn, arg: i64) -> Result<Partial, AllocError>
         ensures value { IfOk result (λ p. IsValue function p (arg ∷ [])) }
         ensures count { IfOk result (λ p. count_in p ≤ 1) }

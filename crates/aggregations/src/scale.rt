@@ -115,6 +115,7 @@ fn top_bit(n: u64) -> u32
     requires { 0 < n }
     ensures at_least { 2 ^ result ≤ n }
     ensures below { n < 2 ^ (result + 1) }
+    ensures small { result < 64 }
 {
     63 - n.leading_zeros()
 }

@@ -4,13 +4,6 @@ use Rattle.std.proofs.lemmas.Int.{ints, to_z-of_z}
 use Rattle.aggregations.proofs.BucketLemmas.{exponent_lt, above_zero, below_zero}
 use Rattle.aggregations.proofs.scale.power_bucket.Goals as goal
 
-pub overflow_add-result : goal.overflow_add-result
-overflow_add-result c =
-    let k = c.top_bit-else-x-eq0.result in
-    let m = c.unsigned_abs-else-x-eq0.result in
-    let small : k < 64 = exponent_lt k 64 m c.top_bit-else-x-eq0.ensures.at_least (omega arith) in
-    omega arith
-
 pub returns-then-x-lt0-clause-only : goal.returns-then-x-lt0-clause-only
 returns-then-x-lt0-clause-only c =
     let x = c.ranges.x in

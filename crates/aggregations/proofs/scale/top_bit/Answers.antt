@@ -11,4 +11,4 @@ returns c =
     let sum = top.1 in
     let is : top.0 ≡ 63 - count_leading_zeros 64 n = omega arith in
     let next : suc top.0 ≡ 63 - count_leading_zeros 64 n + 1 = omega arith in
-    record { at_least = subst (λ j. 2 ^ j ≤ n) is top.2; below = subst (λ j. n < 2 ^ j) next top.3 }
+    record { at_least = subst (λ j. 2 ^ j ≤ n) is top.2; below = subst (λ j. n < 2 ^ j) next top.3; small = omega arith }

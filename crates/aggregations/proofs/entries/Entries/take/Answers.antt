@@ -1,12 +1,10 @@
-use Rattle.std.proofs.Common.{◌≡◌, Some, None, cond, sym, subst, ap, ◌∙◌, rules, arith, sum_by}
-use Rattle.std.specs.Map.{values_of, lookup}
-use Rattle.indexmap.proofs.CallerLemmas.{insert_entry-new}
+use Rattle.std.proofs.Common.{◌≡◌, Some, cond, sym, subst, ap, ◌∙◌, rules, arith}
+use Rattle.std.specs.Map.{lookup}
 use Rattle.d_values.specs.Keys.{same_key}
 use Rattle.d_values.specs.KeyLaws.{same_key_equiv}
-use Rattle.aggregations.specs.Values.{count_in}
 use Rattle.aggregations.specs.Table.{entry_at}
 use Rattle.aggregations.specs.Steps.Entries.{Joins}
-use Rattle.aggregations.proofs.TableLemmas.{sum_pushed}
+use Rattle.aggregations.proofs.TableLemmas.{count_pushed}
 use Rattle.aggregations.proofs.MergeLemmas.{joins_first}
 use Rattle.aggregations.proofs.entries.Entries.take.Goals as goal
 
@@ -16,15 +14,12 @@ returns c =
     let more = c.args.more in
     let now = c.args.self.now in
     let map = c.self.inside.map in
-    let entries = c.insert.new.self.entries in
     let absent = c.in_default.ensures in
     let is = c.self.view_is in
     let up = c.in_ok-insert.ensures.updates.0 in
-    let there : lookup (same_key key) entries ≡ Some more = up key ∙ ap (λ b. cond b (Some more) (lookup (same_key key) map.entries)) (same_key_equiv.refl key) in
+    let there : lookup (same_key key) c.insert.new.self.entries ≡ Some more = up key ∙ ap (λ b. cond b (Some more) (lookup (same_key key) map.entries)) (same_key_equiv.refl key) in
     let joins = subst (λ o. Joins now.function o (Some more) (Some more)) (sym absent) (joins_first now.function more) in
-    let gone : lookup (same_key key) map.entries ≡ None = ap (entry_at key) is ∙ absent in
-    let sums = sum_pushed map.entries entries key more (c.in_ok-insert.ensures.entries ∙ insert_entry-new same_key map key more gone) in
-    let kept : sum_by count_in (values_of map.entries) ≡ sum_by count_in (values_of now.entries) = ap (λ a. sum_by count_in (values_of a.entries)) is in
+    let sums = count_pushed map c.self.inside.function now key more c.insert.new.self.entries is c.in_ok-insert.ensures.entries absent in
     record {
       function = search rules;
       ok = record {
