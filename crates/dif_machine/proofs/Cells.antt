@@ -33,11 +33,8 @@ use Rattle.dif_machine.specs.Cells.{words_beside, cell_key, cell_of, is_of_word,
 
 -- ---- keys of cells tell variables and words apart
 
-one_variable : (m n : ℕ) (k l : Kind) → variable_number (record { slot = m; kind = k }) ≡ variable_number (record { slot = n; kind = l })
-    → ◌≡◌ {A = Var} (record { slot = m; kind = k }) (record { slot = n; kind = l })
-one_variable m n kind.Number kind.Number e = let s : m ≡ n = omega arith in ap (λ i. record { slot = i; kind = kind.Number }) s
-one_variable m n kind.Text kind.Text e = let s : m ≡ n = omega arith in ap (λ i. record { slot = i; kind = kind.Text }) s
-one_variable m n _ _ e = absurd (omega arith)
+one_variable : (x y : Var) → variable_number x ≡ variable_number y → x ≡ y
+one_variable x y e = grind arith
 
 pub keys_same : (t u : ℕ) (x y : Var) (a b : List Word) → length a ≤ 8 → cell_key t x a ≡ cell_key u y b → (x ≡ y) × (a ≡ b)
 keys_same t u x y a b few e =
@@ -48,7 +45,7 @@ keys_same t u x y a b few e =
     let second = shape_below b 8 (omega (arith, few, long)) in
     let vars : variable_number x ≡ variable_number y = omega (arith, cells, first, second) in
     let shapes : shape_of a ≡ shape_of b = omega (arith, cells, first, second) in
-    (one_variable x.slot y.slot x.kind y.kind vars, (digits_same 1 1 a b bits shapes).1)
+    (one_variable x y vars, (digits_same 1 1 a b bits shapes).1)
 
 -- ---- words and the parts of keys
 
@@ -132,13 +129,10 @@ module _ (texts : List (List ℕ)) (old new : Entries) (thread : ℕ) (x : Var) 
       (elsewhere y key) i
 
 pub kind_word : (texts : List (List ℕ)) (k : Kind) (w : Word) → kind_of (value_of texts w) ≡ k → word_of k (bits_of w) ≡ w
-kind_word texts kind.Number (word.Int n) e = refl
-kind_word texts kind.Text (word.Text n) e = refl
-kind_word texts _ _ e = absurd cc
+kind_word texts k w e = grind arith
 
 pub as_it_is : (texts : List (List ℕ)) (k : Kind) (n : ℕ) → value_of texts (word_of k n) ≡ as_kind k (value_of texts (word_of k n))
-as_it_is texts kind.Number n = refl
-as_it_is texts kind.Text n = refl
+as_it_is texts k n = grind arith
 
 -- what is known of a table is known of another that reads the same
 pub table_same : (texts : List (List ℕ)) (old new : Entries) → word_in new ≡ word_in old → IsTableOver texts old → IsTableOver texts new

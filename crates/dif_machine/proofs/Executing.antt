@@ -81,22 +81,24 @@ module _ {M : Type 0} (holds : M → List (List ℕ) → Variables) (is_over : M
 
   -- memory wasn't asked
   pub executed : IsStable holds is_over → (next : ℕ) (i : Instr) (result : Result Onward MachineFault) (n : Seen) → IsRunning is_over memory m → ExecutesFor i next o f m result n → ExecutesOn holds is_over beside i next o f memory m result memory n
-  executed stable next i result n r e index is_next =
-      led stable r _ result memory n refl e.kept (e.lasting r.among) e.known (e.stepped index is_next (holds memory m.texts))
+  executed stable next i result n r e =
+      record { leads = λ index is_next. led stable r _ result memory n refl e.kept (e.lasting r.among) e.known (e.stepped index is_next (holds memory m.texts)) }
 
   -- a variable was loaded into a register
   pub loaded : IsStable holds is_over → IsRunning is_over memory m → (next : ℕ) (i : Instr) (d : Reg) (value : Value) (left : M) (k n : Seen) (w : Word) → Grows m k → left ≡ memory → IsWordOf k.texts w value
       → n ≡ with_frame k (with_register k.frame d (Some (value_of k.texts w)))
       → ((index : ℕ) → next ≡ index + 1 → act i o f (at_index m.frame index) (holds memory m.texts) ≡ Goes (with_value (at_index m.frame index) d value) (holds memory m.texts))
       → ExecutesOn holds is_over beside i next o f memory m (Ok (onward.Goes next)) left n
-  loaded stable r next i d value left k n w grows stays is put acts index is_next =
-      subst (λ n. LeadsTo holds is_over beside f memory m (Ok (onward.Goes next)) left n (act i o f (at_index m.frame index) (holds memory m.texts))) (sym put)
-      (led stable r _ _ left (with_frame k (with_register k.frame d (Some (value_of k.texts w)))) stays grows.kept (record { more = grows.lasting.more; among = grows.lasting.among }) (subst (Knows f) (sym grows.known))
-      (acts index is_next ∙ sym (λ j. Goes (at_index (with_register (grows.frame j) d (Some (is.is j))) (is_next j)) (holds memory m.texts))))
+  loaded stable r next i d value left k n w grows stays is put acts = record {
+    leads = λ index is_next. subst (λ n. LeadsTo holds is_over beside f memory m (Ok (onward.Goes next)) left n (act i o f (at_index m.frame index) (holds memory m.texts))) (sym put)
+        (led stable r _ _ left (with_frame k (with_register k.frame d (Some (value_of k.texts w)))) stays grows.kept (record { more = grows.lasting.more; among = grows.lasting.among }) (subst (Knows f) (sym grows.known))
+        (acts index is_next ∙ sym (λ j. Goes (at_index (with_register (grows.frame j) d (Some (is.is j))) (is_next j)) (holds memory m.texts))));
+  }
 
   -- or memory was refused to it
   pub unloaded : IsStable holds is_over → IsRunning is_over memory m → (next : ℕ) (i : Instr) (result : Result Onward MachineFault) (left : M) (k : Seen) → Grows m k → left ≡ memory → result ≡ Err Memory
       → ExecutesOn holds is_over beside i next o f memory m result left k
-  unloaded stable r next i result left k grows stays refused index is_next =
-      subst (λ result. LeadsTo holds is_over beside f memory m result left k (act i o f (at_index m.frame index) (holds memory m.texts))) (sym refused)
-      (led stable r _ (Err Memory) left k stays grows.kept grows.lasting (subst (Knows f) (sym grows.known)) refl)
+  unloaded stable r next i result left k grows stays refused = record {
+    leads = λ index is_next. subst (λ result. LeadsTo holds is_over beside f memory m result left k (act i o f (at_index m.frame index) (holds memory m.texts))) (sym refused)
+        (led stable r _ (Err Memory) left k stays grows.kept grows.lasting (subst (Knows f) (sym grows.known)) refl);
+  }

@@ -1,6 +1,6 @@
 -- A frame that has what is known.
-use Rattle.std.specs.Prelude.{◌≡◌, ◌≢◌, ◌<◌, ℕ, zero, suc, false, List, [], ◌∷◌}
-use Rattle.std.specs.Prelude.{length, Option, Some, None, slice_index_or, slice_set}
+use Rattle.std.specs.Prelude.{◌≡◌, ◌≢◌, ◌<◌, ℕ, zero, suc, false, List, [], ◌∷◌, length, Option}
+use Rattle.std.specs.Prelude.{Some, None, slice_index_or, slice_set}
 use Rattle.std.proofs.Common.{refl, sym, ap, ◌∙◌, subst, ⊎_elim, arith}
 use Rattle.std.proofs.lemmas.Bool.{cases_eq, or_parts}
 use Rattle.std.proofs.lemmas.List.{get_or-set_same, get_or-set_other}
@@ -78,9 +78,7 @@ fits_tuple s f o parts h is = record { registers = h.registers; compared = h.com
 -- ---- what an instruction asks for is there
 
 other_or_unset : (k : Kind) (known : Option Kind) → is_other k known ≡ false → is_unset known ≡ false → known ≡ Some k
-other_or_unset Number (Some Number) a b = refl
-other_or_unset Text (Some Text) a b = refl
-other_or_unset _ _ a b = cc
+other_or_unset k known a b = grind arith
 
 pub one : (k : Kind) (a : Reg) (s : Shape) → finds_other (One k a) s ≡ false → finds_unset (One k a) s ≡ false → at s.registers a ≡ Some k
 one k a s x y = other_or_unset k (at s.registers a) x y

@@ -1,12 +1,12 @@
 -- Words as they are held, read and written.
-use Rattle.std.specs.Prelude.{◌≡◌, ◌≢◌, ◌<◌, ◌≤◌, ◌∷◌, [], ℕ, suc, List, length, take, Option, None, Some}
-use Rattle.std.specs.Prelude.{IfSome, map, option_map, slice_index_or, slice_set}
+use Rattle.std.specs.Prelude.{◌≡◌, ◌≢◌, ◌<◌, ◌≤◌, ◌∷◌, [], ℕ, suc, List, length, take, Option, None}
+use Rattle.std.specs.Prelude.{Some, IfSome, map, option_map, slice_index_or, slice_set}
 use Rattle.std.proofs.Common.{refl, sym, ap, ◌∙◌, subst, arith}
 use Rattle.std.proofs.lemmas.Grind.{common_steps}
 use Rattle.std.proofs.lemmas.Option.{gets}
 use Rattle.std.specs.List.{All}
 use Rattle.std.proofs.Math.ListN.{get_or-map}
-use Rattle.std.proofs.lemmas.List.{get_or-take, length-take, length-take-le, map-set}
+use Rattle.std.proofs.lemmas.List.{get_or-take, length-take-le, map-set}
 use Rattle.std.proofs.lemmas.List.Elements.{All-weaker}
 use Rattle.numbered.specs.declared.word.Word.{Word}
 use Rattle.numbered.specs.Texts.{AreDistinct, IsNumberOf, Keeps, text_at}
@@ -17,8 +17,8 @@ use Rattle.dif_validate.proofs.Writes.{put_set}
 use Rattle.dif_machine.specs.Vocabulary.{Comparison, Reg, at, put, Value, Text}
 use Rattle.dif_machine.specs.CellLaws.{value_kept}
 use Rattle.dif_machine.specs.Frames.{Frame}
-use Rattle.dif_machine.specs.Machine.{contents, content_of, found_of, key_in, value_of, AreNumbers, IsWithin, IsContentWithin}
-use Rattle.dif_machine.specs.Machine.{IsSound, Seen, seen_of}
+use Rattle.dif_machine.specs.Machine.{contents, content_of, found_of, key_in, value_of, AreNumbers}
+use Rattle.dif_machine.specs.Machine.{IsWithin, IsContentWithin, IsSound, Seen, seen_of}
 use Rattle.dif_machine.specs.Steps.Instructions.{Grows}
 use Rattle.dif_machine.specs.declared.content.Content.{Content}
 use Rattle.dif_machine.specs.declared.content.Content.TheVariants as content

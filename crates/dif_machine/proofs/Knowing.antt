@@ -1,15 +1,15 @@
 -- What is found of a firing's texts.
-use Rattle.std.specs.Prelude.{◌≡◌, ◌<◌, ◌≤◌, ◌-◌, ℕ, zero, suc, List, [], ◌∷◌, length, map, IfSome, Option, Some, option_map, slice_get, slice_index_or, slice_set}
-use Rattle.std.proofs.Common.{refl, sym, ap, subst, ◌∙◌, arith}
+use Rattle.std.specs.Prelude.{◌≡◌, ◌<◌, ◌≤◌, ◌-◌, ℕ, zero, suc, ℤ, pos, List, [], ◌∷◌, length, map, IfSome, Option, Some, option_map, slice_get, slice_index_or, slice_set}
+use Rattle.std.proofs.Common.{get_or, refl, sym, ap, subst, ◌∙◌, arith}
 use Rattle.std.proofs.Props.{props}
 use Rattle.std.proofs.lemmas.List.{map-set}
 use Rattle.std.proofs.lemmas.List.Elements.{All-set}
 use Rattle.std.proofs.lemmas.Grind.{common_steps}
 use Rattle.std.proofs.lemmas.Option.{get_or_from_slice_get, gets, slice_get-map, slice_get_within}
 use Rattle.numbered.specs.Texts.{Keeps, IsNumberOf, text_at}
-use Rattle.dif_machine.specs.Vocabulary.{Firing, Int, Text}
+use Rattle.dif_machine.specs.Vocabulary.{Firing, Int, Text, cast_unsigned, w64}
 use Rattle.dif_machine.specs.Machine.{Knows, found_of, knows_nothing, texts_of}
-use Rattle.dif_machine.specs.Sources.{built_ins}
+use Rattle.dif_machine.specs.Sources.{built_ins, word_or_zero}
 use Rattle.dif_machine.specs.Steps.Found.{AreFound}
 use Rattle.dif_machine.proofs.Holding.{found_kept, numbers_kept}
 
@@ -41,6 +41,12 @@ module _ (f : Firing) (old new : List (List ℕ)) (kept : Keeps old new) (number
 pub known_there : (f : Firing) (texts : List (List ℕ)) (numbers : List (Option ℕ)) → Knows f (found_of texts numbers) → (k n : ℕ) → slice_get numbers k ≡ Some (Some n) → text_at (texts_of f) k ≡ text_at texts n
 known_there f texts numbers known k n there =
     known k (text_at texts n) (slice_get-map (option_map (text_at texts)) numbers k ∙ ap (option_map (option_map (text_at texts))) there)
+
+-- an argument is 0 past the last
+pub argument_is : (args : List ℤ) (n : ℕ) → word_or_zero (slice_get args n) ≡ cast_unsigned w64 (get_or args n (pos 0))
+argument_is [] n = refl
+argument_is (x ∷ xs) zero = refl
+argument_is (x ∷ xs) (suc n) = argument_is xs n
 
 -- ---- for who keeps it in a ghost field
 

@@ -88,8 +88,7 @@ built_in_kind f (suc (suc (suc (suc (suc (suc (suc (suc (suc n))))))))) x k is h
 built_in_kind f _ x k is h = cc
 
 as_kind_is : (k : Kind) (v : Value) → kind_of (as_kind k v) ≡ k
-as_kind_is Number v = refl
-as_kind_is Text v = refl
+as_kind_is k v = grind arith
 
 there : {A : Type 0} (xs : List A) (n : ℕ) → n < length xs → (x : A) × (slice_get xs n ≡ Some x)
 there xs n h = ⊎_elim (λ a. (a.0, a.2)) (λ b. absurd (omega (arith, b.0))) (slice_get_cases xs n).1

@@ -1,5 +1,6 @@
 -- A run over words, so far.
-use Rattle.std.specs.Prelude.{◌≡◌, ◌≢◌, ◌<◌, ◌+◌, ℕ, List, None, Some, Result, Ok, Err, IfOk, slice_get}
+use Rattle.std.specs.Prelude.{◌≡◌, ◌≢◌, ◌<◌, ◌+◌, ℕ, List, None, Some, Result, Ok, Err, IfOk}
+use Rattle.std.specs.Prelude.{slice_get}
 use Rattle.std.proofs.Common.{refl, sym, ap, subst, ◌∙◌}
 use Rattle.std.proofs.lemmas.Option.{none-some, same_Some}
 use Rattle.numbered.specs.Texts.{Keeps}
@@ -17,8 +18,7 @@ use Rattle.dif_machine.specs.declared.onward.Onward.{Onward}
 use Rattle.dif_machine.specs.declared.onward.Onward.TheVariants as onward
 use Rattle.dif_machine.proofs.Executing.{IsStable}
 use Rattle.dif_machine.proofs.Holding.{keeps_on, keeps_refl}
-use Rattle.dif_machine.proofs.Progress.{Follows, follows_start, follows_on, never_stuck}
-use Rattle.dif_machine.proofs.Progress.{ends_badly}
+use Rattle.dif_machine.proofs.Progress.{Follows, follows_start, follows_on, never_stuck, ends_badly}
 
 -- it follows the run of the definition, texts that last keep their numbers, those that were found
 -- are the firing's, and memory knows those that last and has what it had beside
@@ -47,7 +47,7 @@ module _ {M : Type 0} (holds : M → List (List ℕ) → Variables) (is_over : M
     module _ (left : M) (k : Seen) where
       -- what the instruction at the index did is the step
       stepped : (result : Result Onward MachineFault) → ExecutesOn holds is_over beside i (index + 1) o f memory n result left k → LeadsTo holds is_over beside f memory n result left k (step_of o f (at_index n.frame index) (holds memory n.texts))
-      stepped result e = subst (λ x. LeadsTo holds is_over beside f memory n result left k (on x (λ i. act i o f (at_index n.frame index) (holds memory n.texts)))) (sym there) (e index refl)
+      stepped result e = subst (λ x. LeadsTo holds is_over beside f memory n result left k (on x (λ i. act i o f (at_index n.frame index) (holds memory n.texts)))) (sym there) (e.leads index refl)
 
       pub goes_on : (next : ℕ) → ExecutesOn holds is_over beside i (index + 1) o f memory n (Ok (onward.Goes next)) left k → (index < next) × IsUnderWay holds is_over beside o f first m next left k
       goes_on next e =

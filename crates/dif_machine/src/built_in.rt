@@ -90,6 +90,7 @@ fn text<'a>(firing: &'a Firing, index: usize) -> &'a [u8]
 
 /// The firing's argument of this number, 0 past the last.
 #[inline(always)]
+#[tactic(auto, using(crate::proofs::Knowing::argument_is))]
 pub(crate) fn argument(firing: &Firing, n: u64) -> u64
     ensures { result ≡ argument_of firing.now n }
 {

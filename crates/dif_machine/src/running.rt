@@ -113,6 +113,7 @@ pub fn run(
 }
 
 // Runs an object over tables of values, and returns what it returns.
+#[tactic(auto, using(crate::proofs::Arriving::refused_first))]
 fn run_on_tables(
     alloc: Global,
     valid: &ValidDifo,

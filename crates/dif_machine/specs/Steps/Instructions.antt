@@ -91,9 +91,10 @@ pub record LeadsTo {M : Type 0} (holds : M → List (List ℕ) → Variables)
   pub others : beside left ≡ beside memory
   pub stepped : Stepped (holds memory m.texts) next result n.frame (holds left n.texts)
 
-abbrev pub ExecutesOn : {M : Type 0} → (M → List (List ℕ) → Variables)
-    → (M → List (List ℕ) → Type 0) → (M → List ℕ → ℕ) → Instr → ℕ → Object → Firing → M → Seen
-    → Result Onward MachineFault → M → Seen → Type 0
-ExecutesOn holds is_over beside i next o f memory m result left n =
-    (index : ℕ) → next ≡ index + 1 → LeadsTo holds is_over beside f memory m result left n
-    (act i o f (at_index m.frame index) (holds memory m.texts))
+pub record ExecutesOn {M : Type 0} (holds : M → List (List ℕ) → Variables)
+    (is_over : M → List (List ℕ) → Type 0) (beside : M → List ℕ → ℕ) (i : Instr) (next : ℕ)
+    (o : Object) (f : Firing) (memory : M) (m : Seen) (result : Result Onward MachineFault)
+    (left : M) (n : Seen) : Type 0 where
+  pub leads : (index : ℕ) → next ≡ index + 1
+      → LeadsTo holds is_over beside f memory m result left n
+      (act i o f (at_index m.frame index) (holds memory m.texts))

@@ -21,6 +21,7 @@ pub(super) fn cmp(machine: &mut Machine, a: Reg, b: Reg, next: usize) -> Step
 
 /// `tst a`: compares an integer with 0.
 #[inline(always)]
+#[tactic(auto, using(crate::proofs::Executing::still_lasts, crate::proofs::Holding::keeps_refl))]
 pub(super) fn tst(machine: &mut Machine, a: Reg, next: usize) -> Step
     requires { CanExecute (Tst a) next machine.old.frame }
     ensures { Executes (Tst a) next machine.old result machine.new }
@@ -46,6 +47,7 @@ pub(super) fn scmp(machine: &mut Machine, a: Reg, b: Reg, next: usize) -> Step
 
 /// `bCOND to`: goes to an index if the last comparison is so.
 #[inline(always)]
+#[tactic(auto, using(crate::proofs::Executing::still_lasts, crate::proofs::Holding::keeps_refl))]
 pub(super) fn branch(machine: &mut Machine, condition: Condition, to: usize, next: usize) -> Step
     requires { CanExecute (Branch condition to) next machine.old.frame }
     ensures { Executes (Branch condition to) next machine.old result machine.new }

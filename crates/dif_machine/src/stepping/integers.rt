@@ -17,6 +17,7 @@ use numbered::Word;
 
 /// `op a, b, d`: what the operator makes of the integers of two registers.
 #[inline(always)]
+#[tactic(auto, using(crate::proofs::Executing::still_lasts, crate::proofs::Holding::keeps_refl))]
 pub(super) fn alu(
     machine: &mut Machine,
     op: Operator,
@@ -38,6 +39,7 @@ pub(super) fn alu(
 
 /// `not a, d`: an integer with all bits turned.
 #[inline(always)]
+#[tactic(auto, using(crate::proofs::Executing::still_lasts, crate::proofs::Holding::keeps_refl))]
 pub(super) fn not(machine: &mut Machine, a: Reg, d: Reg, next: usize) -> Step
     requires { CanExecute (Not a d) next machine.old.frame }
     ensures { Executes (Not a d) next machine.old result machine.new }
@@ -61,6 +63,7 @@ pub(super) fn setx(difo: &Difo, machine: &mut Machine, i: usize, d: Reg, next: u
 
 /// `ldga v, a, d`: the firing's argument of this number.
 #[inline(always)]
+#[tactic(auto, using(crate::proofs::Executing::still_lasts, crate::proofs::Holding::keeps_refl))]
 pub(super) fn ldga(firing: &Firing, machine: &mut Machine, a: Reg, d: Reg, next: usize) -> Step
     requires { CanExecute (Ldga 0 a d) next machine.old.frame }
     ensures { (o : Object) → ExecutesFor (Ldga 0 a d) next o firing.now machine.old result

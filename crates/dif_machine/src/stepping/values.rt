@@ -13,6 +13,7 @@ use firings::Firing;
 
 /// `mov a, d`: what another register holds.
 #[inline(always)]
+#[tactic(auto, using(crate::proofs::Executing::still_lasts, crate::proofs::Holding::keeps_refl))]
 pub(super) fn mov(machine: &mut Machine, a: Reg, d: Reg, next: usize) -> Step
     requires { CanExecute (Mov a d) next machine.old.frame }
     ensures { Executes (Mov a d) next machine.old result machine.new }

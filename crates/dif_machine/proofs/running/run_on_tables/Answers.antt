@@ -1,11 +1,7 @@
 use Rattle.dif_machine.specs.Vocabulary.{variables}
 use Rattle.dif_machine.specs.Machine.{value_of}
-use Rattle.dif_machine.proofs.Arriving.{ends_refused, refused_first}
+use Rattle.dif_machine.proofs.Arriving.{ends_refused}
 use Rattle.dif_machine.proofs.running.run_on_tables.Goals as goal
-
-pub returns-in_err-machine : goal.returns-in_err-machine
-returns-in_err-machine c =
-    refused_first c.args.valid.now c.args.firing.now (variables c.args.tables.now.locals c.args.tables.now.own) c.from_residual.result c.from_residual.ensures.1
 
 pub returns-in_err-value : goal.returns-in_err-value
 returns-in_err-value c =

@@ -30,12 +30,6 @@ module _ (g : Over) (c : Start g) where
   runs : (i : Instr) → c.args.instr.now ≡ i → act i o f frame vars ≢ Stuck
   runs i is = subst (λ i. act i o f frame vars ≢ Stuck) is c.requires.runs.2
 
-  -- the instruction is the one that was read
-  variable_was : (i : Instr) → c.args.instr.now ≡ i → (result : Result Onward MachineFault) (left : g.row.M.Denot) (n : Seen)
-      → ((o : Object) (f : Firing) → ExecutesOn g.M.Memory.holds g.M.Memory.is_over g.M.Memory.beside i c.args.next o f c.args.memory.now c.args.machine.now result left n)
-      → ExecutesOn g.M.Memory.holds g.M.Memory.is_over g.M.Memory.beside c.args.instr.now c.args.next o f c.args.memory.now c.args.machine.now result left n
-  variable_was i is result left n e = subst (λ i. ExecutesOn g.M.Memory.holds g.M.Memory.is_over g.M.Memory.beside i c.args.next o f c.args.memory.now c.args.machine.now result left n) (sym is) (e o f)
-
   one_array : (v : ℕ) (a d : Reg) → c.args.instr.now ≡ Ldga v a d → c.args.instr.now ≡ Ldga 0 a d
   one_array v a d is = is ∙ ap (λ v. Ldga v a d) (only_array o f frame vars v a d (runs (Ldga v a d) is))
 
@@ -69,6 +63,21 @@ returns-in-Branch g c = was g (goal.at.returns-in-Branch g c).Start _ c.in-Branc
 pub returns-in-Call : goal.returns-in-Call
 returns-in-Call g c = was g (goal.at.returns-in-Call g c).Start _ c.in-Call.is _ _ (c.call.ensures _ _)
 
+pub returns-in-Pushtr : goal.returns-in-Pushtr
+returns-in-Pushtr g c = was g (goal.at.returns-in-Pushtr g c).Start _ c.in-Pushtr.is _ _ (c.pushtr.ensures _ _)
+
+pub returns-in-Pushtv : goal.returns-in-Pushtv
+returns-in-Pushtv g c = was g (goal.at.returns-in-Pushtv g c).Start _ c.in-Pushtv.is _ _ (c.pushtv.ensures _ _)
+
+pub returns-in-Setx : goal.returns-in-Setx
+returns-in-Setx g c = was g (goal.at.returns-in-Setx g c).Start _ c.in-Setx.is _ _ (c.setx.ensures _)
+
+pub returns-in-Sets : goal.returns-in-Sets
+returns-in-Sets g c = was g (goal.at.returns-in-Sets g c).Start _ c.in-Sets.is _ _ (c.sets.ensures _)
+
+pub returns-in-Ldgs : goal.returns-in-Ldgs
+returns-in-Ldgs g c = was g (goal.at.returns-in-Ldgs g c).Start _ c.in-Ldgs.is _ _ (c.ldgs.ensures _)
+
 pub returns-in-Ba : goal.returns-in-Ba
 returns-in-Ba g c = was g (goal.at.returns-in-Ba g c).Start _ c.in-Ba.is _ _ (record { kept = keeps_refl _; lasting = still_lasts _ _ refl refl; known = λ k. k; stepped = λ index is_next vars. refl })
 
@@ -84,50 +93,17 @@ returns-in-Ret g c =
     let value = some_there _ (there (at (frame g s).registers c.in-Ret.a) (λ value. Ends value (vars g s)) (runs g s _ c.in-Ret.is)) in
     was g s _ c.in-Ret.is _ _ (record { kept = keeps_refl _; lasting = still_lasts _ _ refl refl; known = λ k. k; stepped = λ index is_next vars. (value.0, value.1, ap (λ x. on x (λ value. Ends value vars)) value.1) })
 
-pub returns-in-Pushtr : goal.returns-in-Pushtr
-returns-in-Pushtr g c = was g (goal.at.returns-in-Pushtr g c).Start _ c.in-Pushtr.is _ _ (c.pushtr.ensures _ _)
-
-pub returns-in-Pushtv : goal.returns-in-Pushtv
-returns-in-Pushtv g c = was g (goal.at.returns-in-Pushtv g c).Start _ c.in-Pushtv.is _ _ (c.pushtv.ensures _ _)
-
 pub setx-requires : goal.setx-requires
 setx-requires g c = let s = (goal.at.setx-requires g c).Start in record { inside = inside (o g s).numbers c.in-Setx.i (λ n. puts (frame g s) c.in-Setx.d (Int n) (vars g s)) (runs g s _ c.in-Setx.is) }
-
-pub returns-in-Setx : goal.returns-in-Setx
-returns-in-Setx g c = was g (goal.at.returns-in-Setx g c).Start _ c.in-Setx.is _ _ (c.setx.ensures _)
 
 pub sets-requires : goal.sets-requires
 sets-requires g c = let s = (goal.at.sets-requires g c).Start in record { inside = inside (o g s).texts c.in-Sets.i (λ bytes. puts (frame g s) c.in-Sets.d (Text bytes) (vars g s)) (runs g s _ c.in-Sets.is) }
 
-pub returns-in-Sets : goal.returns-in-Sets
-returns-in-Sets g c = was g (goal.at.returns-in-Sets g c).Start _ c.in-Sets.is _ _ (c.sets.ensures _)
-
 pub ldgs-requires : goal.ldgs-requires
 ldgs-requires g c = let s = (goal.at.ldgs-requires g c).Start in record { known = c.requires.known; there = inside (built_ins (f g s)) c.in-Ldgs.v (λ value. puts (frame g s) c.in-Ldgs.d value (vars g s)) (runs g s _ c.in-Ldgs.is) }
-
-pub returns-in-Ldgs : goal.returns-in-Ldgs
-returns-in-Ldgs g c = was g (goal.at.returns-in-Ldgs g c).Start _ c.in-Ldgs.is _ _ (c.ldgs.ensures _)
 
 pub ldga-requires : goal.ldga-requires
 ldga-requires g c = subst (λ i. CanExecute i c.args.next c.args.machine.now.frame) (one_array g (goal.at.ldga-requires g c).Start _ _ _ c.in-Ldga.is) c.requires.can
 
 pub returns-in-Ldga : goal.returns-in-Ldga
 returns-in-Ldga g c = let s = (goal.at.returns-in-Ldga g c).Start in was g s _ (one_array g s _ _ _ c.in-Ldga.is) _ _ (c.ldga.ensures _)
-
-pub returns-in-Ldts : goal.returns-in-Ldts
-returns-in-Ldts g c = variable_was g (goal.at.returns-in-Ldts g c).Start _ c.in-Ldts.is _ _ _ c.load.ensures
-
-pub returns-in-Stts : goal.returns-in-Stts
-returns-in-Stts g c = variable_was g (goal.at.returns-in-Stts g c).Start _ c.in-Stts.is _ _ _ c.store.ensures
-
-pub returns-in-Ldls : goal.returns-in-Ldls
-returns-in-Ldls g c = variable_was g (goal.at.returns-in-Ldls g c).Start _ c.in-Ldls.is _ _ _ c.load-in-Ldls.ensures
-
-pub returns-in-Stls : goal.returns-in-Stls
-returns-in-Stls g c = variable_was g (goal.at.returns-in-Stls g c).Start _ c.in-Stls.is _ _ _ c.store-in-Stls.ensures
-
-pub returns-in-Ldtaa : goal.returns-in-Ldtaa
-returns-in-Ldtaa g c = variable_was g (goal.at.returns-in-Ldtaa g c).Start _ c.in-Ldtaa.is _ _ _ c.load-in-Ldtaa.ensures
-
-pub returns-in-Sttaa : goal.returns-in-Sttaa
-returns-in-Sttaa g c = variable_was g (goal.at.returns-in-Sttaa g c).Start _ c.in-Sttaa.is _ _ _ c.store-in-Sttaa.ensures

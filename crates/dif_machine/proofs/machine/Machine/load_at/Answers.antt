@@ -1,20 +1,11 @@
 use Rattle.std.specs.Prelude.{[], ◌∷◌, ◌++◌, List}
-use Rattle.std.specs.List.{All}
-use Rattle.std.proofs.Common.{ap, subst, sym, ◌∙◌}
-use Rattle.std.proofs.lemmas.List.Elements.{All-cons, All-nil}
+use Rattle.std.proofs.Common.{ap, subst, ◌∙◌}
 use Rattle.numbered.specs.declared.word.Word.{Word}
-use Rattle.dif_machine.specs.Machine.{IsWithin, Seen, key_in}
+use Rattle.dif_machine.specs.Machine.{Seen, key_in}
 use Rattle.dif_machine.specs.Memories.{LoadsWord}
 use Rattle.dif_machine.specs.Sources.{own_value}
 use Rattle.dif_machine.proofs.Holding.{grown}
 use Rattle.dif_machine.proofs.machine.Machine.load_at.Goals as goal
-
-pub load_own-requires-clause-within : goal.load_own-requires-clause-within
-load_own-requires-clause-within g c =
-    let i = c.self.inside in
-    let tuple = c.push.ensures ∙ ap (λ (ws : List Word). ws ++ c.args.key ∷ []) c.clear.ensures in
-    let within = subst (λ (s : Seen). IsWithin s.texts c.args.key) (sym c.self.view_is) c.requires.within in
-    subst (All (IsWithin i.texts)) (sym tuple) (All-cons (IsWithin i.texts) c.args.key [] within (All-nil (IsWithin i.texts)))
 
 pub returns : goal.returns
 returns g c =

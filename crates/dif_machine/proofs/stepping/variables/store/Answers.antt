@@ -21,16 +21,18 @@ pub store-requires-clause-over : goal.store-requires-clause-over
 store-requires-clause-over g c = (g.met.M.Memory.stays c.args.memory.now c.args.machine.now.lasting c.args.machine.now.texts c.requires.running.over c.requires.running.among).0
 
 pub returns : goal.returns
-returns g c = λ o f index is_next.
-    let can = c.requires.can in
-    let here = can_here (store_of c.args.variable c.args.a) c.args.next c.args.machine.now.frame can index is_next in
-    let acts = stores (at_index c.args.machine.now.frame index) can.vars (g.M.Memory.holds c.args.memory.now c.args.machine.now.texts) can.object o can.firing f c.args.variable c.args.a here _ c.word-word.ensures.is in
-    let grows = c.store.ensures.grows in
-    let holds = (λ j. g.M.Memory.holds c.store.new.memory (c.store.ensures.texts j)) ∙ c.in_ok-store.ensures.stores.ok in
-    record {
-      lasting = record { more = grows.lasting.more; among = grows.lasting.among };
-      known = subst (Knows f) (sym grows.known);
-      over = c.store.ensures.over c.requires.running.over;
-      others = c.store.ensures.stores.beside;
-      stepped = acts ∙ sym (λ j. Goes (at_index (grows.frame j) (is_next j)) (holds j));
-    }
+returns g c = λ o f. record {
+  leads = λ index is_next.
+      let can = c.requires.can in
+      let here = can_here (store_of c.args.variable c.args.a) c.args.next c.args.machine.now.frame can index is_next in
+      let acts = stores (at_index c.args.machine.now.frame index) can.vars (g.M.Memory.holds c.args.memory.now c.args.machine.now.texts) can.object o can.firing f c.args.variable c.args.a here _ c.word-word.ensures.is in
+      let grows = c.store.ensures.grows in
+      let holds = (λ j. g.M.Memory.holds c.store.new.memory (c.store.ensures.texts j)) ∙ c.in_ok-store.ensures.stores.ok in
+      record {
+        lasting = record { more = grows.lasting.more; among = grows.lasting.among };
+        known = subst (Knows f) (sym grows.known);
+        over = c.store.ensures.over c.requires.running.over;
+        others = c.store.ensures.stores.beside;
+        stepped = acts ∙ sym (λ j. Goes (at_index (grows.frame j) (is_next j)) (holds j));
+      };
+}
