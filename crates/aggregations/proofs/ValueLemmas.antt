@@ -86,8 +86,7 @@ counts_joined h more new step _ xs ys a b = absurd a
 
 -- the histogram that is held
 pub held_histogram : (held : Held) (h : Histogram) → histogram_in (figure_of held) ≡ Some h → held ≡ Counts h
-held_histogram (Counts x) h is = ap Counts (same_Some x h is)
-held_histogram _ h is = cc
+held_histogram held h is = grind arith
 
 pub only_counts : (h : Histogram) (other new : Held) → histogram_in (figure_of other) ≡ None → TakesBoth (Counts h) other new
 only_counts h (Counts x) new none f xs ys a b = cc
@@ -116,8 +115,7 @@ both_after (Mean m) (Mean n) number Avg xs ys a b = (sum_joined m.sum n.sum xs y
 both_after _ _ number _ xs ys a b = absurd (search rules)
 
 pub count_after : (p : Held) (x : ℤ) (k : ℕ) → count_in (after p x k) ≤ count_in p + k
-count_after (Counted n) x k = omega arith
-count_after _ x k = omega arith
+count_after p x k = grind arith
 
 -- ---- there is a value
 
