@@ -1,18 +1,14 @@
 -- Beginnings of a group's firings.
-use Rattle.std.proofs.Common.{◌≡◌, ℕ, ◌+◌, ◌<◌, ◌≤◌, min, true, false, List}
-use Rattle.std.proofs.Common.{[], ◌∷◌, ◌++◌, Option, None, Some, is_some, length, drop}
-use Rattle.std.proofs.Common.{take, get_or, slice_get, refl, sym, ap, ◌∙◌, ⊎_elim, inl, inr}
-use Rattle.std.proofs.Common.{arith, append-nil}
-use Rattle.std.specs.Prelude.{option_map}
-use Rattle.std.specs.Option.{option_or}
-use Rattle.std.proofs.lemmas.List.{take-append-drop, take_all}
+use Rattle.std.proofs.Common.{◌≡◌, ℕ, ◌+◌, ◌<◌, ◌≤◌, min, true, false, List, [], ◌∷◌, ◌++◌, Option}
+use Rattle.std.proofs.Common.{None, Some, is_some, length, drop, take, get_or, slice_get, refl, sym}
+use Rattle.std.proofs.Common.{ap, ◌∙◌, ⊎_elim, inl, inr, arith, append-nil, option_map}
+use Rattle.std.proofs.Common.{take-append-drop, take_all}
 use Rattle.std.proofs.lemmas.List.Concat.{flat_map-append}
-use Rattle.d_types.specs.Typed.{ScriptMeant}
-use Rattle.firings.specs.declared.firing.Firing.{Firing}
 use Rattle.shard_queue.proofs.Lists.{drop_next}
+use Rattle.replay_core.specs.Vocabulary.{option_or, ScriptMeant, Firing}
 use Rattle.replay_core.specs.declared.lanes.piece.Piece.{Piece}
-use Rattle.replay_core.specs.Beginnings.{IsBeginning, IsBegun, IsLeft, exit_over}
-use Rattle.replay_core.specs.Beginnings.{least_exit, lesser_of}
+use Rattle.replay_core.specs.Beginnings.{IsBeginning, IsBegun, IsLeft, exit_over, least_exit}
+use Rattle.replay_core.specs.Beginnings.{lesser_of}
 use Rattle.replay_core.specs.Meaning.{Threads, exit_of, history, firing_result, blank_threads}
 use Rattle.replay_core.specs.Running.{threads_over}
 use Rattle.replay_core.specs.Steps.Working.{firings_at}

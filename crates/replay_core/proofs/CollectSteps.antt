@@ -1,38 +1,34 @@
 -- Which fault the collector returns, and that sorted pieces can be merged as the pieces could.
 use Rattle.std.proofs.Common.{◌≡◌, ◌≢◌, ℕ, suc, ◌+◌, ◌==◌, ◌<◌, ◌≤◌, Bool, true, false, cond, List}
 use Rattle.std.proofs.Common.{[], ◌∷◌, All, Contains, Option, None, Some, length, map, refl, sym}
-use Rattle.std.proofs.Common.{ap, subst, ⊎_elim, arith, ltb, sum_by}
-use Rattle.std.specs.List.Sorted.{IsPermutation}
+use Rattle.std.proofs.Common.{ap, subst, ⊎_elim, arith, ltb, sum_by, IsPermutation}
 use Rattle.std.proofs.lemmas.List.Sorted.{IsPermutation-sym, IsPermutation-map, All-permutation}
 use Rattle.std.proofs.lemmas.List.Sorted.{Contains-permutation, sum_by-IsPermutation}
-use Rattle.std.proofs.lemmas.Bool.{cases_eq}
-use Rattle.aggregations.specs.declared.function.AggFn.{AggFn}
-use Rattle.aggregations.specs.Table.{functions_of, count_held}
+use Rattle.std.proofs.lemmas.Bool.{cases_eq, cond_both}
 use Rattle.shard_queue.proofs.Lists.{all_cons}
+use Rattle.replay_core.specs.Vocabulary.{AggFn, functions_of, count_held}
 use Rattle.replay_core.specs.declared.lanes.piece.Piece.{Piece}
 use Rattle.replay_core.specs.declared.collect_fault.CollectFault.{CollectFault}
 use Rattle.replay_core.specs.declared.collect_fault.CollectFault.TheVariants.{Twice, Stranger}
 use Rattle.replay_core.specs.declared.collect_fault.CollectFault.TheVariants.{Missing, Memory}
 use Rattle.replay_core.specs.Steps.PiecePlaces.{first_missing, pieces_with_places, IsFault}
 use Rattle.replay_core.specs.Tables.{Table, AllHave, CanMerge}
-use Rattle.replay_core.specs.Collecting.{first_bad, first_bad_after, pieces_with_groups}
-use Rattle.replay_core.specs.Collecting.{tables_of, IsCollectFault}
+use Rattle.replay_core.specs.Collecting.{first_bad, first_bad_after, pieces_with_groups, tables_of}
+use Rattle.replay_core.specs.Collecting.{IsCollectFault}
 
 -- a bad piece is no missing one
 not_missing : (n : ℕ) (had : ℕ → Bool) (ps : List (ℕ × Piece)) (g : ℕ) → first_bad_after had n ps ≡ Some (Missing g) → ⊥
 not_missing n had [] g e = cc
-not_missing n had (p ∷ ps) g e = here (ltb p.0 n) (had p.0) (not_missing n (λ u. cond (u == p.0) true (had u)) ps g) e
-  where
-    here : (b c : Bool) → (first_bad_after (λ u. cond (u == p.0) true (had u)) n ps ≡ Some (Missing g) → ⊥) → cond b (cond c (Some (Twice p.0)) (first_bad_after (λ u. cond (u == p.0) true (had u)) n ps)) (Some (Stranger p.0)) ≡ Some (Missing g) → ⊥
-    here true true more x = cc
-    here true false more x = more x
-    here false c more x = cc
+not_missing n had (p ∷ ps) g e =
+    let next = λ (u : ℕ). cond (u == p.0) true (had u) in
+    let No : Option CollectFault → Type 0 = λ o. o ≡ Some (Missing g) → ⊥ in
+    let own : No (cond (had p.0) (Some (Twice p.0)) (first_bad_after next n ps)) = cond_both (had p.0) (Some (Twice p.0)) (first_bad_after next n ps) No (λ yes x. cc) (λ no x. not_missing n next ps g x) in
+    cond_both (ltb p.0 n) (cond (had p.0) (Some (Twice p.0)) (first_bad_after next n ps)) (Some (Stranger p.0)) No (λ yes. own) (λ no x. cc) e
 
 pub fault_bad : (n : ℕ) (ps : List (ℕ × Piece)) (e : CollectFault) → IsFault e (first_bad n ps) → IsCollectFault n ps e
-fault_bad n ps (Twice g) is = is
-fault_bad n ps (Stranger g) is = is
 fault_bad n ps (Missing g) is = absurd (not_missing n (λ g. false) ps g is)
 fault_bad n ps Memory is = tt
+fault_bad n ps e is = is
 
 -- what stands from here on has no lesser number
 standing_from : (a : ℕ) (places : List (Option Piece)) → All (λ p. a ≤ p.0) (pieces_with_places a places)

@@ -1,13 +1,10 @@
 -- The first exit of a run is that of its groups.
-use Rattle.std.proofs.Common.{◌≡◌, ◌≢◌, ℕ, zero, suc, ◌+◌, ◌<◌, ◌≤◌, Bool, true, false, cond, List}
-use Rattle.std.proofs.Common.{[], ◌∷◌, Option, None, Some, map, refl, sym, ap, ◌∙◌, subst, ⊎_elim}
-use Rattle.std.proofs.Common.{arith, ltb}
-use Rattle.std.specs.Prelude.{option_map}
-use Rattle.std.specs.Option.{option_or}
+use Rattle.std.proofs.Common.{◌≡◌, ◌≢◌, ℕ, zero, suc, ◌+◌, ◌<◌, ◌≤◌, cond, List, [], ◌∷◌, Option}
+use Rattle.std.proofs.Common.{None, Some, map, refl, sym, ap, ◌∙◌, subst, ⊎_elim, arith, ltb}
+use Rattle.std.proofs.Common.{option_map, le-ltb, lt-ltb}
 use Rattle.std.specs.List.{range_with_len}
-use Rattle.std.proofs.lemmas.Bool.{cases_eq, le-ltb, lt-ltb}
-use Rattle.d_types.specs.Clauses.{Made}
-use Rattle.firings.specs.declared.firing.Firing.{Firing}
+use Rattle.std.proofs.lemmas.Bool.{cases_eq, cond_both}
+use Rattle.replay_core.specs.Vocabulary.{option_or, Made, Firing}
 use Rattle.replay_core.specs.Meaning.{exit_of}
 use Rattle.replay_core.specs.Uniting.{sooner, first_exit}
 use Rattle.replay_core.proofs.GroupSums.{AllIn, own_group, part, passed, taken}
@@ -30,11 +27,7 @@ stays_after e (Some x) lt = ap (λ b. cond b (Some e) (Some x)) (lt-ltb e.0 x.0 
 both_later : (n : ℕ) (x y : Option (ℕ × ℕ)) → Later n x → Later n y → Later n (sooner x y)
 both_later n None y a b = b
 both_later n (Some x) None a b = a
-both_later n (Some x) (Some y) a b = here (ltb y.0 x.0)
-  where
-    here : (c : Bool) → Later n (cond c (Some y) (Some x))
-    here true = b
-    here false = a
+both_later n (Some x) (Some y) a b = cond_both (ltb y.0 x.0) (Some y) (Some x) (Later n) (λ yes. b) (λ no. a)
 
 later_past : (F : ℕ → Option (ℕ × ℕ)) (number a n m : ℕ) → m < a → ((k : ℕ) → k ≢ m → Later number (F k)) → Later number (first_exit (map F (range_with_len a n)))
 later_past F number a zero m lt later = tt

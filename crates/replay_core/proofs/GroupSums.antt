@@ -1,10 +1,11 @@
 -- Lists and sums over groups.
 use Rattle.std.proofs.Common.{◌≡◌, ◌≢◌, ℕ, zero, suc, ◌+◌, ◌<◌, ◌≤◌, Bool, true, false, cond, List}
-use Rattle.std.proofs.Common.{[], ◌∷◌, ◌++◌, Option, None, Some, All, filter, sum_by, refl, sym, ap}
-use Rattle.std.proofs.Common.{◌∙◌, subst, ⊎_elim, arith, append-nil, eq-eqb, ne_eqb}
-use Rattle.std.specs.Prelude.{IsSomeAnd}
-use Rattle.std.specs.List.{flat_map, range_with_len}
+use Rattle.std.proofs.Common.{[], ◌∷◌, ◌++◌, Option, None, Some, All, filter, map, refl, sym, ap}
+use Rattle.std.proofs.Common.{◌∙◌, subst, ⊎_elim, arith, append-nil, eq-eqb, ne_eqb, sum_by}
+use Rattle.std.proofs.Common.{IsSomeAnd, flat_map}
+use Rattle.std.specs.List.{range_with_len}
 use Rattle.std.proofs.lemmas.Bool.{cases_eq}
+use Rattle.std.proofs.lemmas.List.{get_or-map, length-map}
 use Rattle.std.proofs.lemmas.List.Elements.{filter-append}
 use Rattle.std.proofs.lemmas.List.Sums.{sum_by-append, sum_by-cons}
 use Rattle.replay_core.specs.Groups.{is_group}
@@ -16,6 +17,9 @@ sum_by-flat h f (x ∷ xs) = sum_by-append h (f x) (flat_map f xs) ∙ ap (λ s.
 pub filter-flat : {A B : Type 0} (p : B → Bool) (f : A → List B) (xs : List A) → filter p (flat_map f xs) ≡ flat_map (λ x. filter p (f x)) xs
 filter-flat p f [] = refl
 filter-flat p f (x ∷ xs) = filter-append p (f x) (flat_map f xs) ∙ ap (λ l. filter p (f x) ++ l) (filter-flat p f xs)
+
+pub all_mapped : {A B : Type 0} (P : B → Type 0) (f : A → B) (xs : List A) → All P (map f xs) → All (λ x. P (f x)) xs
+all_mapped P f xs all k d lt = subst P (get_or-map f xs k d (f d) lt) (all k (f d) (let long = length-map xs f in omega arith))
 
 -- past the one term that has more
 sum_past : (f g : ℕ → ℕ) (a n m : ℕ) → m < a → ((k : ℕ) → k ≢ m → f k ≡ g k) → sum_by f (range_with_len a n) ≡ sum_by g (range_with_len a n)

@@ -1,14 +1,10 @@
 -- The texts of a run, and those of its groups.
-use Rattle.std.proofs.Common.{◌≡◌, ◌≢◌, ℕ, zero, suc, ◌<◌, ◌≤◌, ◌==◌, Bool, true, false, cond, List}
-use Rattle.std.proofs.Common.{[], ◌∷◌, ◌++◌, Option, map, refl, sym, ap, ◌∙◌, subst, ⊎_elim, arith}
-use Rattle.std.proofs.Common.{ne_eqb}
-use Rattle.std.specs.List.{flat_map, range_with_len}
-use Rattle.std.specs.List.Sorted.{IsStrictlyIncreasing}
-use Rattle.std.proofs.lemmas.Bool.{cases_eq}
-use Rattle.d_types.specs.Typed.{ScriptMeant}
-use Rattle.d_types.specs.Clauses.{Made}
-use Rattle.firings.specs.declared.firing.Firing.{Firing}
-use Rattle.firings.specs.Firings.{number_of}
+use Rattle.std.proofs.Common.{◌≡◌, ◌≢◌, ℕ, zero, suc, ◌<◌, ◌≤◌, ◌==◌, cond, List, [], ◌∷◌, ◌++◌}
+use Rattle.std.proofs.Common.{Option, map, refl, sym, ap, ◌∙◌, subst, ⊎_elim, arith, ne_eqb}
+use Rattle.std.proofs.Common.{flat_map}
+use Rattle.std.specs.List.{range_with_len}
+use Rattle.std.proofs.lemmas.Bool.{cases_eq, cond_both}
+use Rattle.replay_core.specs.Vocabulary.{IsStrictlyIncreasing, ScriptMeant, Made, Firing, number_of}
 use Rattle.replay_core.specs.Groups.{Grouping, AreGrouped, is_group}
 use Rattle.replay_core.specs.Meaning.{Threads, history, texts_of, threads_after}
 use Rattle.replay_core.specs.Uniting.{with_number, AllFrom, InOrder}
@@ -53,11 +49,9 @@ grouped_history m grouping (f ∷ fs) threads each (suc k) d lt = grouped_histor
 
 pub over_part : (group : Firing × Made → Option ℕ) (g n : ℕ) (r : List (Firing × Made)) → Over n r → Over n (part group g r)
 over_part group g n [] over = tt
-over_part group g n (x ∷ r) over = here (is_group g (group x)) (over_part group g x.0.number r over.1)
-  where
-    here : (b : Bool) → Over x.0.number (part group g r) → Over n (cond b (x ∷ part group g r) (part group g r))
-    here true more = (over.0, more)
-    here false more = over_less n x.0.number (part group g r) (let lt = over.0 in omega arith) more
+over_part group g n (x ∷ r) over =
+    let more = over_part group g x.0.number r over.1 in
+    cond_both (is_group g (group x)) (x ∷ part group g r) (part group g r) (Over n) (λ yes. (over.0, more)) (λ no. over_less n x.0.number (part group g r) (let lt = over.0 in omega arith) more)
 
 -- ---- the texts of one number
 

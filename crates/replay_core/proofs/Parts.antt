@@ -1,41 +1,33 @@
 -- What workers gave back, one worker after the other.
 use Rattle.std.proofs.Common.{All, IfOk, List, None, Ok, Option, Result, Some, Vec, [], ap}
-use Rattle.std.proofs.Common.{append-nil, append_assoc, ap₂, arith, if◌then◌else◌, length, map, min, refl, subst, suc}
-use Rattle.std.proofs.Common.{sym, ℕ, ◌++◌, ◌+◌, ◌<◌, ◌∙◌, ◌∷◌, ◌≡◌, ◌≤◌}
-use Rattle.std.specs.List.{flat_map}
-use Rattle.std.specs.declared.alloc.Global.{Global}
+use Rattle.std.proofs.Common.{append-nil, ap₂, arith, if◌then◌else◌, length, map, min, refl, subst}
+use Rattle.std.proofs.Common.{suc, sym, ℕ, ◌++◌, ◌+◌, ◌<◌, ◌∙◌, ◌∷◌, ◌≡◌, ◌≤◌, flat_map, Global}
 use Rattle.std.proofs.lemmas.List.{map-append}
+use Rattle.std.proofs.lemmas.List.Concat.{flat_map-append}
 use Rattle.std.proofs.lemmas.List.Elements.{All-append, All-map}
-use Rattle.d_types.specs.Typed.{ScriptMeant}
-use Rattle.firings.specs.declared.firing.Firing.{Firing}
-use Rattle.firings.specs.Ends.{with_ends}
-use Rattle.shard_queue.specs.Least.{no_number}
-use Rattle.shard_queue.specs.declared.groups.Groups.{Groups}
-use Rattle.shard_queue.specs.Groups.{grouping}
-use Rattle.shard_queue.specs.declared.claim_seat.ClaimSeat.{ClaimSeat}
-use Rattle.shard_queue.specs.declared.board.ClaimBoard.{ClaimBoard}
-use Rattle.shard_queue.specs.Boards.{IsAt, claim_numbers, claim_seats_at_end, least_lowered}
-use Rattle.shard_queue.specs.Boards.{least_seen, number_lowered, number_seen}
+use Rattle.shard_queue.specs.Boards.{claim_numbers, claim_seats_at_end}
 use Rattle.shard_queue.specs.Hands.{IsHandOut}
 use Rattle.shard_queue.proofs.Lists.{all_cons}
+use Rattle.replay_core.specs.Vocabulary.{ScriptMeant, Firing, with_ends, no_number, Groups}
+use Rattle.replay_core.specs.Vocabulary.{grouping, ClaimSeat, ClaimBoard, IsAt, least_lowered}
+use Rattle.replay_core.specs.Vocabulary.{least_seen, number_lowered, number_seen}
 use Rattle.replay_core.specs.declared.lanes.piece.Piece.{Piece}
 use Rattle.replay_core.specs.Groups.{IsAllBelow}
 use Rattle.replay_core.specs.declared.workers.round.Round.{Round}
 use Rattle.replay_core.specs.declared.workers.span.Span.{Span}
-use Rattle.replay_core.specs.AtBoard.{AreParts, GivesBegun, GivesPieces, IsRound}
+use Rattle.replay_core.specs.AtBoard.{AreParts, GivesBegun, GivesPieces, IsRound, IsWork, Part}
 use Rattle.replay_core.specs.Steps.AtBoard.{AreFinished}
-use Rattle.replay_core.specs.AtBoard.{IsWork, Part}
 use Rattle.replay_core.specs.Beginnings.{AreBegun, IsBegunOf, least_exit, lesser_of}
 use Rattle.replay_core.specs.Seen.{IsRoomy}
 use Rattle.replay_core.specs.Working.{AreOfGroups, IsOfGroup, firings_in}
 use Rattle.replay_core.proofs.BeginLemmas.{seen_less}
+use Rattle.replay_core.proofs.GroupSums.{all_mapped}
 
 pub none_finished : {E : Type 0} (pieces : List (ℕ × Piece)) (seats : List ClaimSeat) → pieces ≡ [] → seats ≡ [] → AreFinished {E = E} [] pieces seats
 none_finished pieces seats a b = record { parts = []; each = refl; all = a; seated = b }
 
 pieces_more : (ps : List Part) (p : Part) → flat_map (λ q. q.0.items) (ps ++ p ∷ []) ≡ flat_map (λ q. q.0.items) ps ++ p.0.items
-pieces_more [] p = append-nil p.0.items
-pieces_more (q ∷ ps) p = ap (λ xs. q.0.items ++ xs) (pieces_more ps p) ∙ sym (append_assoc q.0.items (flat_map (λ r. r.0.items) ps) p.0.items)
+pieces_more ps p = flat_map-append (λ q. q.0.items) ps (p ∷ []) ∙ ap (λ l. flat_map (λ q. q.0.items) ps ++ l) (append-nil p.0.items)
 
 pub one_finished : {E : Type 0} (results : List (Result Part E)) (result : Result Part E) (pieces new : List (ℕ × Piece)) (seats more : List ClaimSeat) (part : Vec (ℕ × Piece) Global) (seat : ClaimSeat)
     → AreFinished results pieces seats → result ≡ Ok (part, seat) → new ≡ pieces ++ part.items → more ≡ seats ++ seat ∷ [] → AreFinished (results ++ result ∷ []) new more
@@ -46,15 +38,11 @@ one_finished results result pieces new seats more part seat are one a b = record
   seated = b ∙ ap (λ xs. xs ++ seat ∷ []) are.seated ∙ sym (map-append (λ p. p.1) are.parts ((part, seat) ∷ []));
 }
 
-of_finished : {E : Type 0} (P : Part → Type 0) (ps : List Part) → All (λ (r : Result Part E). IfOk r P) (map Ok ps) → All P ps
-of_finished P [] each = λ k d lt. absurd (omega arith)
-of_finished P (p ∷ ps) each = all_cons P p ps (each 0 (Ok p) (omega arith)) (of_finished P ps (λ k d lt. each (suc k) d (omega arith)))
-
 -- what holds of each worker that came to its end holds of all
 pub finished_parts : {E : Type 0} (P : Part → Type 0) (results : List (Result Part E)) (pieces : List (ℕ × Piece)) (seats : List ClaimSeat) → AreFinished results pieces seats → All (λ r. IfOk r P) results → AreParts P pieces seats
 finished_parts P results pieces seats are each = record {
   parts = are.parts;
-  each = of_finished P are.parts (subst (λ rs. All (λ r. IfOk r P) rs) are.each each);
+  each = all_mapped (λ r. IfOk r P) Ok are.parts (subst (λ rs. All (λ r. IfOk r P) rs) are.each each);
   all = are.all;
   seated = are.seated;
 }
@@ -84,9 +72,6 @@ module _ (P : Part → Type 0) (board : ClaimBoard) where
   all_ordered (p ∷ ps) each = map-append (λ q. q.0) p.0.items (flat_map (λ q. q.0.items) ps)
       ∙ ap₂ (λ xs ys. xs ++ ys) (each 0 p (omega arith)).order (all_ordered ps (λ k d lt. each (suc k) d (omega arith)))
 
-  all_give : (ps : List Part) → All Works ps → All P ps
-  all_give ps each k d lt = (each k d lt).gives
-
   -- so a closed board has all groups, each once
   pub whole_round : (n : ℕ) (r : Round) (seats : List ClaimSeat) → AreParts Works r.pieces.items seats → 0 < length seats → board.end ≡ n
       → IsHandOut board.end (claim_seats_at_end seats) (claim_numbers seats) → flat_map (λ list. list.items) r.lists.items ≡ claim_numbers seats
@@ -100,7 +85,7 @@ module _ (P : Part → Type 0) (board : ClaimBoard) where
         once = subst (λ (xs : List ℕ). IsAllBelow n xs) (sym order) drawn;
         taken = subst (λ (xs : List ℕ). IsAllBelow n xs) (sym same) drawn;
         seats = seats;
-        parts = record { parts = are.parts; each = all_give are.parts are.each; all = are.all; seated = are.seated };
+        parts = record { parts = are.parts; each = λ k d lt. (are.each k d lt).gives; all = are.all; seated = are.seated };
         lowered = low;
         seen = seen_low;
       }
@@ -119,21 +104,17 @@ given_pieces s runs groups trace pieces seats are = record {
 
 -- ---- round one
 
+lesser_min : (m n : ℕ) (e : Option (ℕ × ℕ)) → (lesser_of m e ≤ m) × (lesser_of (min m n) e ≡ min (lesser_of m e) n)
+lesser_min m n None = (omega arith, refl)
+lesser_min m n (Some e) = (omega arith, omega arith)
+
+least_small : (ps : List (ℕ × Piece)) → least_exit ps ≤ no_number
+least_small [] = omega arith
+least_small (p ∷ ps) = let le = (lesser_min (least_exit ps) 0 p.1.exit).0 in let more = least_small ps in omega arith
+
 least_append : (xs ys : List (ℕ × Piece)) → least_exit (xs ++ ys) ≡ min (least_exit xs) (least_exit ys)
-least_append [] ys = under ys
-  where
-    under : (zs : List (ℕ × Piece)) → least_exit zs ≡ min no_number (least_exit zs)
-    under [] = omega arith
-    under (z ∷ zs) = here z.1.exit (under zs)
-      where
-        here : (e : Option (ℕ × ℕ)) → least_exit zs ≡ min no_number (least_exit zs) → lesser_of (least_exit zs) e ≡ min no_number (lesser_of (least_exit zs) e)
-        here None more = more
-        here (Some e) more = omega arith
-least_append (x ∷ xs) ys = here x.1.exit (least_append xs ys)
-  where
-    here : (e : Option (ℕ × ℕ)) → least_exit (xs ++ ys) ≡ min (least_exit xs) (least_exit ys) → lesser_of (least_exit (xs ++ ys)) e ≡ min (lesser_of (least_exit xs) e) (least_exit ys)
-    here None more = more
-    here (Some e) more = omega arith
+least_append [] ys = let le = least_small ys in omega arith
+least_append (x ∷ xs) ys = ap (λ n. lesser_of n x.1.exit) (least_append xs ys) ∙ (lesser_min (least_exit xs) (least_exit ys) x.1.exit).1
 
 module _ (runs : ScriptMeant → Type 0) (groups : Groups) (trace : List Firing) where
   lowered_least : (ps : List Part) → All (GivesBegun number_seen number_lowered runs groups trace) ps → least_lowered (map (λ p. p.1) ps) ≡ least_exit (flat_map (λ p. p.0.items) ps)

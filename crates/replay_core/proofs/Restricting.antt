@@ -1,12 +1,8 @@
 -- A group's history is the run's, restricted to it.
 use Rattle.std.proofs.Common.{◌≡◌, Bool, true, false, List, [], ◌∷◌, filter, refl, sym, ap, ◌∙◌}
-use Rattle.std.proofs.Common.{if◌then◌else◌}
-use Rattle.std.specs.Prelude.{ℤ, ℕ}
-use Rattle.std.specs.Ordering.{int_eq}
+use Rattle.std.proofs.Common.{if◌then◌else◌, ℤ, ℕ, int_eq}
 use Rattle.std.proofs.lemmas.Bool.Decides.{Decides-int_eq}
-use Rattle.d_types.specs.Typed.{ScriptMeant}
-use Rattle.d_types.specs.Clauses.{Made}
-use Rattle.firings.specs.declared.firing.Firing.{Firing}
+use Rattle.replay_core.specs.Vocabulary.{ScriptMeant, Made, Firing}
 use Rattle.replay_core.specs.Groups.{Grouping, is_group}
 use Rattle.replay_core.specs.Meaning.{Threads, history, firing_result, threads_after, blank_threads}
 use Rattle.replay_core.specs.Uniting.{group_history, results_in_group}

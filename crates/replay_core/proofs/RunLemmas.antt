@@ -1,14 +1,9 @@
 -- Runs, one firing after the other.
-use Rattle.std.specs.Prelude.{◌≡◌, List, [], ◌∷◌, ◌++◌, map, Option, None, Some, option_map}
-use Rattle.std.specs.Option.{option_or}
-use Rattle.std.proofs.Common.{refl, sym, ap, ◌∙◌, subst}
+use Rattle.std.proofs.Common.{◌≡◌, List, [], ◌∷◌, ◌++◌, map, Option, None, Some, option_map, refl}
+use Rattle.std.proofs.Common.{sym, ap, ◌∙◌, subst}
 use Rattle.std.proofs.lemmas.Grind.{flat_map-append}
 use Rattle.std.proofs.lemmas.List.{map-append}
-use Rattle.aggregations.specs.Table.{StandsFor}
-use Rattle.d_types.specs.Clauses.{Made}
-use Rattle.d_types.specs.Typed.{ScriptMeant}
-use Rattle.firings.specs.declared.firing.Firing.{Firing}
-use Rattle.firings.specs.Firings.{number_of}
+use Rattle.replay_core.specs.Vocabulary.{option_or, StandsFor, Made, ScriptMeant, Firing, number_of}
 use Rattle.replay_core.specs.Lanes.{Fires, LaneSeen}
 use Rattle.replay_core.specs.Meaning.{Threads, contributions_of, exit_of, history, firing_result}
 use Rattle.replay_core.specs.Meaning.{texts_of, threads_after, blank_threads}
@@ -54,5 +49,3 @@ fires_more m fs f old new lane fires =
         exit = fires.piece.exit ∙ ap (λ o. option_or o (exit_of last)) lane.piece.exit ∙ sym (exit_append so_far last) ∙ ap exit_of (sym all);
       };
     }
-
--- ---- rows up to the first that exits

@@ -1,12 +1,8 @@
 -- The groups of a run unite to it.
-use Rattle.std.proofs.Common.{◌≡◌, ℕ, List, [], ◌∷◌, map, sym, ap, ◌∙◌, sum_by}
-use Rattle.std.specs.List.{flat_map, range_with_len}
-use Rattle.std.specs.List.Sorted.{IsStrictlyIncreasing}
+use Rattle.std.proofs.Common.{◌≡◌, ℕ, List, [], ◌∷◌, map, sym, ap, ◌∙◌, sum_by, flat_map}
+use Rattle.std.specs.List.{range_with_len}
 use Rattle.std.proofs.lemmas.List.Concat.{flat_map_single}
-use Rattle.d_types.specs.Typed.{ScriptMeant}
-use Rattle.d_types.specs.Clauses.{Made}
-use Rattle.firings.specs.declared.firing.Firing.{Firing}
-use Rattle.firings.specs.Firings.{number_of}
+use Rattle.replay_core.specs.Vocabulary.{IsStrictlyIncreasing, ScriptMeant, Made, Firing, number_of}
 use Rattle.replay_core.specs.Groups.{Grouping, AreGrouped, over_groups}
 use Rattle.replay_core.specs.Meaning.{contributions_of, exit_of, history, numbers_of, texts_of}
 use Rattle.replay_core.specs.Meaning.{blank_threads}

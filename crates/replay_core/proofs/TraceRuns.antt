@@ -2,30 +2,26 @@
 use Rattle.std.proofs.Common.{add-one, eq-eqb, false, ne_eqb, None, Option, ◌≡◌, ℕ, ◌-◌, Some}
 use Rattle.std.proofs.Common.{slice_get, zero, suc, ◌+◌, ◌<◌, ◌≤◌, ◌==◌, ◌||◌, Bool, true, cond}
 use Rattle.std.proofs.Common.{List, [], ◌∷◌, ◌++◌, All, map, filter, length, refl, sym, ap, ◌∙◌}
-use Rattle.std.proofs.Common.{subst, arith, length-append}
-use Rattle.std.specs.Prelude.{ℤ, IsSomeAnd, nat_le}
-use Rattle.std.specs.List.Sorted.{IsStrictlyIncreasing}
-use Rattle.std.proofs.lemmas.Bool.{le-leb}
-use Rattle.std.proofs.lemmas.List.{map-append}
+use Rattle.std.proofs.Common.{subst, arith, length-append, ℤ, IsSomeAnd, nat_le, le-leb}
+use Rattle.std.proofs.lemmas.Bool.{cond_both, or_right}
+use Rattle.std.proofs.lemmas.List.{get_or_push, map-append}
 use Rattle.std.proofs.lemmas.List.Elements.{All-append, All-filter, All-get_or}
 use Rattle.std.proofs.lemmas.List.Sums.{count_by-le-length, length-filter}
-use Rattle.std.proofs.lemmas.Option.{slice_get-get_or}
-use Rattle.d_types.specs.Typed.{ScriptMeant}
-use Rattle.firings.specs.declared.firing.Firing.{Firing}
-use Rattle.firings.specs.Ends.{begin_of, end_of, with_ends}
-use Rattle.firings.specs.Firings.{IsFiring, number_of, thread_of, IsTrace, last_number}
-use Rattle.shard_queue.specs.declared.groups.Groups.{Groups}
-use Rattle.shard_queue.specs.Groups.{AreOf, grouping}
-use Rattle.shard_queue.specs.Least.{no_number}
-use Rattle.shard_queue.specs.Threads.{run_threads, thread_zero}
+use Rattle.std.proofs.lemmas.Option.{slice_get-get_or, slice_get_read}
+use Rattle.firings.specs.Firings.{IsFiring, thread_of, last_number}
+use Rattle.shard_queue.specs.Threads.{thread_zero}
 use Rattle.shard_queue.proofs.Lists.{all_cons}
+use Rattle.replay_core.specs.Vocabulary.{IsStrictlyIncreasing, ScriptMeant, Firing, begin_of}
+use Rattle.replay_core.specs.Vocabulary.{end_of, with_ends, number_of, IsTrace, Groups, AreOf}
+use Rattle.replay_core.specs.Vocabulary.{grouping, no_number, run_threads}
 use Rattle.replay_core.specs.declared.workers.span.Span.{Span}
 use Rattle.replay_core.specs.Exit.{firings_over, up_to}
 use Rattle.replay_core.specs.Meaning.{exit_of, history, blank_threads}
-use Rattle.replay_core.specs.Groups.{AreGrouped, Grouping}
+use Rattle.replay_core.specs.Groups.{AreGrouped}
 use Rattle.replay_core.specs.Working.{firings_in, is_in}
 use Rattle.replay_core.specs.declared.workers.span.Span.TheVariants as span
 use Rattle.replay_core.proofs.ExitLemmas.{Rises, rises_less, trace_rises}
+use Rattle.replay_core.proofs.GroupSums.{all_mapped}
 use Rattle.replay_core.proofs.SelectionLemmas.{slice_get_left}
 
 pub threads_are : (trace : List Firing) → map thread_of (with_ends trace trace) ≡ run_threads trace
@@ -47,15 +43,11 @@ at_row trace (suc k) f some e =
     let same : suc k - 1 ≡ k = omega arith in
     slice_get_left trace (end_of trace ∷ []) k f (subst (λ j. slice_get trace j ≡ Some f) same e)
 
-at_last : (xs : List Firing) (k : ℕ) (f : Firing) → k ≡ length xs → slice_get (xs ++ f ∷ []) k ≡ Some f
-at_last [] zero f e = refl
-at_last [] (suc k) f e = absurd (omega arith)
-at_last (x ∷ xs) zero f e = absurd (omega arith)
-at_last (x ∷ xs) (suc k) f e = at_last xs k f (omega arith)
-
 pub at_end : (trace : List Firing) (index : ℕ) → index ≡ length trace + 1 → slice_get (with_ends trace trace) index ≡ Some (end_of trace)
-at_end trace zero e = absurd (omega arith)
-at_end trace (suc k) e = at_last trace k (end_of trace) (omega arith)
+at_end trace index is =
+    let long = length-append trace (end_of trace ∷ []) in
+    slice_get_read (with_ends trace trace) (length trace + 2) index (end_of trace) (omega arith) (omega arith)
+    (sym (get_or_push (begin_of trace ∷ trace) (end_of trace) (end_of trace) index (omega arith)))
 
 -- ---- firings that count
 
@@ -66,11 +58,9 @@ Rising (f ∷ fs) = Rises f.number fs
 
 rises_kept : (p : Firing → Bool) (n : ℕ) (fs : List Firing) → Rises n fs → Rises n (filter p fs)
 rises_kept p n [] r = tt
-rises_kept p n (f ∷ fs) r = here (p f) (rises_kept p f.number fs r.1)
-  where
-    here : (b : Bool) → Rises f.number (filter p fs) → Rises n (cond b (f ∷ filter p fs) (filter p fs))
-    here true more = (r.0, more)
-    here false more = rises_less n f.number (filter p fs) (let lt = r.0 in omega arith) more
+rises_kept p n (f ∷ fs) r =
+    let more = rises_kept p f.number fs r.1 in
+    cond_both (p f) (f ∷ filter p fs) (filter p fs) (Rises n) (λ yes. (r.0, more)) (λ no. rises_less n f.number (filter p fs) (let lt = r.0 in omega arith) more)
 
 rising_after : (n : ℕ) (fs : List Firing) → Rises n fs → Rising fs
 rising_after n [] r = tt
@@ -78,11 +68,9 @@ rising_after n (f ∷ fs) r = r.1
 
 pub rising_kept : (p : Firing → Bool) (fs : List Firing) → Rising fs → Rising (filter p fs)
 rising_kept p [] r = tt
-rising_kept p (f ∷ fs) r = here (p f) (rises_kept p f.number fs r)
-  where
-    here : (b : Bool) → Rises f.number (filter p fs) → Rising (cond b (f ∷ filter p fs) (filter p fs))
-    here true more = more
-    here false more = rising_after f.number (filter p fs) more
+rising_kept p (f ∷ fs) r =
+    let more = rises_kept p f.number fs r in
+    cond_both (p f) (f ∷ filter p fs) (filter p fs) Rising (λ yes. more) (λ no. rising_after f.number (filter p fs) more)
 
 pub rising_rest : (fs rest : List Firing) → Rising (fs ++ rest) → Rising rest
 rising_rest [] rest up = up
@@ -93,7 +81,7 @@ increases n [] r k within = absurd (omega arith)
 increases n (f ∷ fs) r zero within = r.0
 increases n (f ∷ fs) r (suc k) within = rw add-one (rw add-one at (increases f.number fs r.1 k (omega arith)))
 
-climbing : (fs : List Firing) → Rising fs → IsStrictlyIncreasing (map number_of fs)
+pub climbing : (fs : List Firing) → Rising fs → IsStrictlyIncreasing (map number_of fs)
 climbing [] r = λ k within. absurd (omega arith)
 climbing (f ∷ fs) r = increases f.number fs r
 
@@ -108,15 +96,10 @@ counted_few s trace is = let some = few_kept (is_in s) (with_ends trace trace) i
 
 -- ---- their groups
 
-grouped_by_threads : (grouping : Grouping) (fs : List Firing) → All (λ t. IsSomeAnd (grouping.group t) (λ g. g < grouping.count)) (map thread_of fs) → AreGrouped grouping fs
-grouped_by_threads grouping [] each = λ k d lt. absurd (omega arith)
-grouped_by_threads grouping (f ∷ fs) each =
-    all_cons (λ f. IsSomeAnd (grouping.group f.thread) (λ g. g < grouping.count)) f fs (each 0 f.thread (omega arith)) (grouped_by_threads grouping fs (λ k d lt. each (suc k) d (omega arith)))
-
 pub counted_grouped : (s : Span) (groups : Groups) (trace : List Firing) → AreOf groups (run_threads trace) → AreGrouped (grouping groups) (firings_in s trace)
 counted_grouped s groups trace are =
     let P = λ (t : ℤ). IsSomeAnd ((grouping groups).group t) (λ g. g < (grouping groups).count) in
-    All-filter (is_in s) (λ (f : Firing). P f.thread) (with_ends trace trace) (grouped_by_threads (grouping groups) (with_ends trace trace) (subst (λ (ts : List ℤ). All P ts) (sym (threads_are trace)) are.each))
+    All-filter (is_in s) (λ (f : Firing). P f.thread) (with_ends trace trace) (all_mapped P thread_of (with_ends trace trace) (subst (λ (ts : List ℤ). All P ts) (sym (threads_are trace)) are.each))
 
 -- where there is a firing there is a group
 pub some_group : (groups : Groups) (trace : List Firing) → AreOf groups (run_threads trace) → 0 < (grouping groups).count
@@ -129,26 +112,20 @@ some_group groups trace are = here ((grouping groups).group thread_zero) (are.ea
 -- ---- up to an exit
 
 -- numbers before the end are not the end's
-before_end : (n : ℕ) (fs : List Firing) (e : Firing) → Rises n (fs ++ e ∷ []) → n < e.number
+pub before_end : (n : ℕ) (fs : List Firing) (e : Firing) → Rises n (fs ++ e ∷ []) → n < e.number
 before_end n [] e r = r.0
 before_end n (f ∷ fs) e r = let lt = r.0 in let more = before_end f.number fs e r.1 in omega arith
 
 up_to_end : (last n : ℕ) (fs : List Firing) (e : Firing) → Rises n (fs ++ e ∷ []) → filter (is_in (span.UpTo last e.number)) (fs ++ e ∷ []) ≡ filter (λ f. nat_le f.number last) fs ++ e ∷ []
-up_to_end last n [] e r = ap (λ b. cond (nat_le e.number last || b) (e ∷ []) []) (eq-eqb e.number e.number refl) ∙ here (nat_le e.number last)
-  where
-    here : (b : Bool) → cond (b || true) (e ∷ []) [] ≡ e ∷ []
-    here true = refl
-    here false = refl
+up_to_end last n [] e r = ap (λ b. cond b (e ∷ []) []) (or_right (nat_le e.number last) (e.number == e.number) (eq-eqb e.number e.number refl))
 up_to_end last n (f ∷ fs) e r =
     let lt = before_end f.number fs e r.1 in
     let more = up_to_end last f.number fs e r.1 in
-    ap (λ b. cond (nat_le f.number last || b) (f ∷ filter (is_in (span.UpTo last e.number)) (fs ++ e ∷ [])) (filter (is_in (span.UpTo last e.number)) (fs ++ e ∷ []))) (ne_eqb f.number e.number (λ same. omega arith))
-    ∙ ap (λ l. cond (nat_le f.number last || false) (f ∷ l) l) more
-    ∙ here (nat_le f.number last)
-  where
-    here : (b : Bool) → cond (b || false) (f ∷ (filter (λ g. nat_le g.number last) fs ++ e ∷ [])) (filter (λ g. nat_le g.number last) fs ++ e ∷ []) ≡ cond b (f ∷ filter (λ g. nat_le g.number last) fs) (filter (λ g. nat_le g.number last) fs) ++ e ∷ []
-    here true = refl
-    here false = refl
+    let kept = filter (is_in (span.UpTo last e.number)) (fs ++ e ∷ []) in
+    elim (nat_le f.number last) as (λ b. cond (b || (f.number == e.number)) (f ∷ kept) kept ≡ cond b (f ∷ filter (λ g. nat_le g.number last) fs) (filter (λ g. nat_le g.number last) fs) ++ e ∷ []) [
+      | true ↦ ap (λ l. f ∷ l) more
+      | false ↦ ap (λ b. cond b (f ∷ kept) kept) (ne_eqb f.number e.number (λ same. omega arith)) ∙ more
+    ]
 
 -- the firings up to an exit, and END
 pub counted_up_to : (exit : ℕ × ℕ) (trace : List Firing) → IsTrace trace → firings_in (span.UpTo exit.0 (end_of trace).number) trace ≡ with_ends trace (up_to (Some exit) trace)
@@ -157,13 +134,9 @@ counted_up_to exit trace is =
     ap (λ b. cond (b || (0 == (end_of trace).number)) (begin_of trace ∷ rest) rest) (le-leb 0 exit.0 (omega arith))
     ∙ ap (λ l. begin_of trace ∷ l) (up_to_end exit.0 0 trace (end_of trace) (trace_rises trace is))
 
--- where no firing exits all count, and else those up to the exit
-pub over_all : (m : ScriptMeant) (trace fs : List Firing) (exit : Option (ℕ × ℕ)) → fs ≡ with_ends trace trace → exit ≡ exit_of (history m fs blank_threads) → exit ≡ None → fs ≡ firings_over m trace
-over_all m trace fs exit all is none = all ∙ ap (λ o. with_ends trace (up_to o trace)) (sym none ∙ is ∙ ap (λ l. exit_of (history m l blank_threads)) all)
-
-pub over_exit : (m : ScriptMeant) (trace fs : List Firing) (exit : Option (ℕ × ℕ)) (some : ℕ × ℕ) → fs ≡ with_ends trace trace → exit ≡ exit_of (history m fs blank_threads) → exit ≡ Some some
-    → with_ends trace (up_to (Some some) trace) ≡ firings_over m trace
-over_exit m trace fs exit some all is exits = ap (λ o. with_ends trace (up_to o trace)) (sym exits ∙ is ∙ ap (λ l. exit_of (history m l blank_threads)) all)
+-- the firings that count, by the run's exit
+pub over_by : (m : ScriptMeant) (trace : List Firing) (exit : Option (ℕ × ℕ)) → exit_of (history m (with_ends trace trace) blank_threads) ≡ exit → with_ends trace (up_to exit trace) ≡ firings_over m trace
+over_by m trace exit is = ap (λ o. with_ends trace (up_to o trace)) (sym is)
 
 -- ---- numbers
 

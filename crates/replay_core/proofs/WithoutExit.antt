@@ -1,31 +1,29 @@
 -- Without an exit every firing counts.
-use Rattle.std.specs.Prelude.{◌≡◌, ℕ, zero, suc, List, [], ◌∷◌, ◌++◌, true}
-use Rattle.std.specs.Prelude.{false, if◌then◌else◌, Option, None, Some, is_some, option_map}
-use Rattle.std.specs.Prelude.{unwrap_or}
-use Rattle.std.specs.List.{All, list_any}
-use Rattle.std.specs.Option.{option_or}
-use Rattle.std.proofs.Common.{refl, sym, ap, ◌∙◌}
-use Rattle.std.proofs.lemmas.Bool.{or_parts}
-use Rattle.std.proofs.lemmas.List.Elements.{All-cons, All-head, All-nil, All-tail}
-use Rattle.d_types.specs.declared.effect.Effect.{Effect}
-use Rattle.d_types.specs.declared.effect.Effect.TheVariants as ef
-use Rattle.d_types.specs.Typed.{Typed, Typeds, Action, Evaluate, Trace, Print, Exit}
-use Rattle.d_types.specs.Typed.{Aggregate, ClauseMeant, ScriptMeant, has_exit, is_exit}
-use Rattle.d_types.specs.Storage.{Variables}
-use Rattle.d_types.specs.Expressions.{Outcome, Has, Faults, with, number_outcome}
-use Rattle.d_types.specs.Clauses.{Evaluation, Made, argument_by, by_trees, effect_by, fault_line}
-use Rattle.d_types.specs.Clauses.{run_of}
-use Rattle.firings.specs.declared.firing.Firing.{Firing}
-use Rattle.firings.specs.Ends.{begin_of, end_of, with_ends}
-use Rattle.firings.specs.Firings.{IsTrace}
+use Rattle.std.proofs.Common.{◌≡◌, ℕ, zero, suc, List, [], ◌∷◌, ◌++◌, All, filter, cond, nat_le}
+use Rattle.std.proofs.Common.{get_or, true, false, Option, None, Some, option_map, unwrap_or, refl}
+use Rattle.std.proofs.Common.{ap, ◌∙◌, arith, le-leb}
+use Rattle.std.proofs.lemmas.Bool.{both_ways, false_from_ne_true, or_parts}
+use Rattle.std.proofs.lemmas.List.Elements.{All-head, All-tail}
+use Rattle.std.proofs.lemmas.List.Folds.{list_any_at}
+use Rattle.d_types.specs.Typed.{Action, Aggregate, Evaluate, Exit, Print, Trace}
+use Rattle.d_types.specs.Clauses.{by_trees}
+use Rattle.replay_core.specs.Vocabulary.{list_any, option_or, ClauseMeant, Effect, Evaluation}
+use Rattle.replay_core.specs.Vocabulary.{Faults, Firing, Has, IsTrace, Made, Outcome, ScriptMeant}
+use Rattle.replay_core.specs.Vocabulary.{Typed, Typeds, Variables, argument_by, begin_of, effect_by}
+use Rattle.replay_core.specs.Vocabulary.{end_of, fault_line, has_exit, is_exit, number_outcome}
+use Rattle.replay_core.specs.Vocabulary.{run_of, with, with_ends}
 use Rattle.replay_core.specs.Exit.{exit_status, firings_over, history_over, up_to}
 use Rattle.replay_core.specs.Meaning.{Threads, clauses_for, exit_of, history, in_turn}
 use Rattle.replay_core.specs.Meaning.{firing_result, threads_after, blank_threads}
+use Rattle.replay_core.specs.Running.{threads_over}
 use Rattle.replay_core.specs.Steps.EffectRuns.{Ran, effect_then, exit_in, statements_by}
 use Rattle.replay_core.specs.Steps.EffectRuns.{where_predicate, where_true}
+use Rattle.d_types.specs.declared.effect.Effect.TheVariants as ef
+use Rattle.replay_core.proofs.BeginLemmas.{exit_parts}
 use Rattle.replay_core.proofs.EffectRuns.{run_by_is}
-use Rattle.replay_core.proofs.ExitLemmas.{firings_are, until_exit}
+use Rattle.replay_core.proofs.ExitLemmas.{Rises, trace_rises}
 use Rattle.replay_core.proofs.ThreadLemmas.{for_all}
+use Rattle.replay_core.proofs.TraceRuns.{before_end}
 
 -- ---- a run of a clause
 
@@ -43,10 +41,8 @@ goes_with (Has x vars) go goes = goes x vars
 goes_with (Faults vars) go goes = tt
 
 skipped : (e : Effect) (rest : List Effect) → Stays e → exit_in (e ∷ rest) ≡ exit_in rest
-skipped ef.Nothing rest stays = refl
-skipped (ef.Says text) rest stays = refl
-skipped (ef.Adds index key z) rest stays = refl
 skipped (ef.Exits status) rest stays = absurd stays
+skipped e rest stays = refl
 
 module _ (by : Evaluation Typed Typeds) where
   effect_goes : (a : Action) (vars : Variables) → is_exit a ≡ false → Goes (effect_by by a vars)
@@ -82,10 +78,8 @@ abbrev ClauseGoes : ClauseMeant → Type 0
 ClauseGoes c = list_any (λ a. is_exit a) c.statements ≡ false
 
 clauses_go : (cs : List ClauseMeant) → list_any (λ c. list_any (λ a. is_exit a) c.statements) cs ≡ false → All ClauseGoes cs
-clauses_go [] without = All-nil ClauseGoes
-clauses_go (c ∷ cs) without =
-    let both = or_parts (list_any (λ a. is_exit a) c.statements) (list_any (λ c. list_any (λ a. is_exit a) c.statements) cs) without in
-    All-cons ClauseGoes c cs both.0 (clauses_go cs both.1)
+clauses_go cs without k d lt = false_from_ne_true (list_any (λ a. is_exit a) (get_or cs k d).statements) (λ e.
+    both_ways _ without (list_any_at (λ c. list_any (λ a. is_exit a) c.statements) cs k d lt e))
 
 turn_goes : (f : Firing) (cs : List (ℕ × ClauseMeant)) (vars : Variables) → All (λ c. ClauseGoes c.1) cs → (in_turn f cs vars).exit ≡ None
 turn_goes f [] vars all = refl
@@ -110,17 +104,22 @@ script_goes m trace without = (
   ap (λ (o : Option (ℕ × ℕ)). unwrap_or (option_map (λ exit. exit.1) o) 0) (history_goes m (firings_over m trace) blank_threads without),
 )
 
--- all firings run where none of them exits
-all_run : (m : ScriptMeant) (fs : List Firing) (threads : Threads) → exit_of (history m fs threads) ≡ None → until_exit m fs threads ≡ fs
-all_run m [] threads none = refl
-all_run m (f ∷ fs) threads none =
-    elim (firing_result m f (threads f.thread)).exit
-    as (λ o. option_or (option_map (λ status. (f.number, status)) o) (exit_of (history m fs (threads_after m f threads))) ≡ None
-    → f ∷ (if is_some o then [] else until_exit m fs (threads_after m f threads)) ≡ f ∷ fs) [
-      | None ↦ λ later. ap (λ l. f ∷ l) (all_run m fs (threads_after m f threads) later)
-      | Some status ↦ λ e. absurd (let c : ◌≡◌ {A = Option (ℕ × ℕ)} (Some (f.number, status)) None = e in cc)
-    ] none
+-- firings before the last are up to its number
+all_before : (n : ℕ) (fs : List Firing) (e : Firing) → Rises n (fs ++ e ∷ []) → filter (λ f. nat_le f.number e.number) fs ≡ fs
+all_before n [] e r = refl
+all_before n (f ∷ fs) e r =
+    let lt = before_end f.number fs e r.1 in
+    ap (λ b. cond b (f ∷ filter (λ f. nat_le f.number e.number) fs) (filter (λ f. nat_le f.number e.number) fs)) (le-leb f.number e.number (omega arith))
+    ∙ ap (λ l. f ∷ l) (all_before f.number fs e r.1)
 
 pub trace_goes : (m : ScriptMeant) (trace : List Firing) → IsTrace trace → exit_of (history m (begin_of trace ∷ trace) blank_threads) ≡ None → firings_over m trace ≡ with_ends trace trace
 trace_goes m trace is none =
-    sym (firings_are m trace is) ∙ ap (λ l. l ++ end_of trace ∷ []) (all_run m (begin_of trace ∷ trace) blank_threads none)
+    let end = end_of trace in
+    let rows = begin_of trace ∷ trace in
+    let threads = threads_over m rows blank_threads in
+    ap (λ o. with_ends trace (up_to o trace)) (exit_parts m rows (end ∷ []) ∙ ap (λ o. option_or o (exit_of (history m (end ∷ []) threads))) none)
+    ∙ ap (λ fs. with_ends trace fs)
+    (elim (firing_result m end (threads end.thread)).exit as (λ o. up_to (option_or (option_map (λ status. (end.number, status)) o) None) trace ≡ trace) [
+      | None ↦ refl
+      | Some status ↦ all_before 0 trace end (trace_rises trace is)
+    ])

@@ -1,13 +1,14 @@
 -- Steps of a worker.
-use Rattle.std.proofs.Common.{◌≡◌, ℕ, zero, suc, ◌+◌, ◌<◌, ◌≤◌, true, false, cond, List, []}
-use Rattle.std.proofs.Common.{◌∷◌, ◌++◌, Some, map, filter, length, take, drop, get_or}
-use Rattle.std.proofs.Common.{slice_get, sym, ap, ◌∙◌, subst, arith, append-nil}
-use Rattle.std.proofs.lemmas.List.{length-take, map-append}
-use Rattle.std.proofs.lemmas.List.Concat.{flat_map-append}
+use Rattle.std.proofs.Common.{◌≡◌, ℕ, ◌+◌, ◌<◌, ◌≤◌, true, false, cond, List, [], ◌∷◌, ◌++◌, Some}
+use Rattle.std.proofs.Common.{map, filter, length, take, drop, get_or, slice_get, sym, ap, ◌∙◌}
+use Rattle.std.proofs.Common.{subst, arith, append-nil, length-take}
+use Rattle.std.proofs.lemmas.List.{map-append}
+use Rattle.std.proofs.lemmas.List.Concat.{flat_map-append, length-flat_map}
+use Rattle.std.proofs.lemmas.List.Sums.{sum_by-le}
+use Rattle.std.proofs.lemmas.Option.{get_or_from_slice_get, slice_get_within}
 use Rattle.std.proofs.lemmas.List.Elements.{filter-append}
-use Rattle.d_types.specs.Typed.{ScriptMeant}
-use Rattle.firings.specs.declared.firing.Firing.{Firing}
-use Rattle.shard_queue.proofs.Lists.{take_next}
+use Rattle.shard_queue.proofs.Lists.{drop_next, take_next}
+use Rattle.replay_core.specs.Vocabulary.{ScriptMeant, Firing}
 use Rattle.replay_core.specs.declared.lanes.piece.Piece.{Piece}
 use Rattle.replay_core.specs.declared.workers.span.Span.{Span}
 use Rattle.replay_core.specs.Lanes.{LaneSeen}
@@ -18,10 +19,7 @@ use Rattle.replay_core.specs.Steps.Working.{firings_at}
 -- ---- indices
 
 pub one_at : (fs : List Firing) (index : ℕ) (f : Firing) → slice_get fs index ≡ Some f → take 1 (drop index fs) ≡ f ∷ []
-one_at [] zero f e = absurd cc
-one_at [] (suc k) f e = absurd cc
-one_at (x ∷ fs) zero f e = let same : x ≡ f = cc in ap (λ y. y ∷ []) same
-one_at (x ∷ fs) (suc k) f e = one_at fs k f e
+one_at fs index f is = ap (take 1) (drop_next fs index f (slice_get_within fs index f is) (get_or_from_slice_get fs index f f is))
 
 -- one index more
 pub at_more : (fs : List Firing) (indices : List ℕ) (i index : ℕ) (f : Firing) → i < length indices → get_or indices i index ≡ index → slice_get fs index ≡ Some f
@@ -38,12 +36,10 @@ kept_more span fs indices i index f lt item is =
     ∙ filter-append (is_in span) (firings_at fs (take i indices)) (f ∷ [])
 
 pub few_firings : (fs : List Firing) (indices : List ℕ) → length (firings_at fs indices) ≤ length indices
-few_firings fs [] = omega arith
-few_firings fs (p ∷ indices) = first (drop p fs) (few_firings fs indices)
-  where
-    first : (l : List Firing) → length (firings_at fs indices) ≤ length indices → length (take 1 l ++ firings_at fs indices) ≤ suc (length indices)
-    first [] le = omega arith
-    first (x ∷ l) le = omega arith
+few_firings fs indices =
+    let most = sum_by-le (λ p. length (take 1 (drop p fs))) 1 indices (λ k d lt. let one = length-take 1 (drop (get_or indices k d) fs) in omega arith) in
+    let size = length-flat_map (λ p. take 1 (drop p fs)) indices in
+    omega arith
 
 pub few_at : (fs : List Firing) (i : ℕ) (indices : List ℕ) → length (firings_at fs (take i indices)) ≤ i
 few_at fs i indices = let few = few_firings fs (take i indices) in let most = length-take i indices in omega arith
