@@ -1,9 +1,8 @@
 -- Descriptions, found by the names that they give.
-use Rattle.std.proofs.Common.{◌≡◌, ℕ, suc, ◌+◌, ◌<◌, ◌≤◌, ◌==◌, ◌&&◌, ◌||◌, Bool, true}
-use Rattle.std.proofs.Common.{false, cond, List, [], ◌∷◌, ◌++◌, All, Bor, Option, None, Some, filter}
-use Rattle.std.proofs.Common.{map, length, drop, get_or, refl, sym, ap, ap₂, ◌∙◌, subst, arith}
-use Rattle.std.proofs.Common.{add-one, append_assoc, eq-eqb, nat_lt}
-use Rattle.std.specs.Prelude.{slice_get}
+use Rattle.std.proofs.Common.{◌≡◌, ℕ, suc, ◌+◌, ◌<◌, ◌≤◌, ◌==◌, ◌&&◌, ◌||◌, Bool, true, false, cond}
+use Rattle.std.proofs.Common.{List, [], ◌∷◌, ◌++◌, All, Bor, Option, None, Some, filter, map}
+use Rattle.std.proofs.Common.{length, drop, get_or, refl, sym, ap, ap₂, ◌∙◌, subst, arith, add-one}
+use Rattle.std.proofs.Common.{append_assoc, eq-eqb, nat_lt, slice_get}
 use Rattle.std.specs.List.{list_all}
 use Rattle.std.proofs.Math.Seq.{drop-cons}
 use Rattle.std.proofs.lemmas.Bool.{and_parts}
@@ -12,23 +11,20 @@ use Rattle.std.proofs.lemmas.List.{get_or-map, length-map, map-append}
 use Rattle.std.proofs.lemmas.List.Elements.{All-push, All-weaker, filter-append}
 use Rattle.std.proofs.lemmas.Option.{slice_get_within}
 use Rattle.keyed_hash.specs.declared.hash_key.HashKey.{HashKey}
-use Rattle.d_parser.specs.declared.tree.Description.{Description}
 use Rattle.firings.specs.declared.unit.Probe.{Probe}
-use Rattle.firings.specs.Stored.{Extends}
 use Rattle.firings.proofs.Stored.{named_more}
+use Rattle.replay_core.specs.Vocabulary.{Description, Extends}
 use Rattle.replay_core.specs.declared.selection.table.Described.{Described}
-use Rattle.replay_core.specs.Steps.Described.{GiveSame, HasKind, IsOfKind, IsSameKind}
-use Rattle.replay_core.specs.Steps.Described.{given_from, given_of, hash_of_description}
-use Rattle.replay_core.specs.Steps.Described.{hash_of_names}
+use Rattle.replay_core.specs.Steps.Described.{GiveSame, HasKind, IsOfKind, IsSameKind, given_from}
+use Rattle.replay_core.specs.Steps.Described.{given_of, hash_of_description, hash_of_names}
 use Rattle.replay_core.specs.Steps.Described.{hash_of_probe, hash_sought, is_exact, is_found}
-use Rattle.replay_core.specs.Steps.Described.{is_given}
-use Rattle.replay_core.specs.Steps.Described.{where_given}
+use Rattle.replay_core.specs.Steps.Described.{is_given, where_given}
 use Rattle.replay_core.specs.Patterns.{field_matches, selects}
 use Rattle.replay_core.specs.Steps.Patterns.{is_plain}
 use Rattle.replay_core.specs.Indices.{indices_for}
 use Rattle.replay_core.specs.Steps.Indices.{merge}
 use Rattle.replay_core.specs.Uniting.{AllFrom, InOrder, with_number}
-use Rattle.replay_core.proofs.PatternTests.{all4, literal, matches_there}
+use Rattle.replay_core.proofs.PatternTests.{literal, matches_there}
 use Rattle.replay_core.proofs.IndicesMerged.{AreFrom, Rise, merges}
 
 -- the indices of those that select the probe
@@ -43,14 +39,20 @@ exact_field [] (b ∷ d) text same plain m = cc
 exact_field (a ∷ like) [] text same plain m = cc
 exact_field (a ∷ like) (b ∷ d) text same plain m = (literal (b ∷ d) text plain).1 (matches_there (b ∷ d) text m)
 
+all_four : (a b c d : Bool) → (a && b && c && d) ≡ true → (a ≡ true) × (b ≡ true) × (c ≡ true) × (d ≡ true)
+all_four a b c d e =
+    let three = and_parts (a && b && c) d e in
+    let two = and_parts (a && b) c three.0 in
+    let one = and_parts a b two.0 in (one.0, one.1, two.1, three.1)
+
 exact_hash : (key : HashKey) (like d : Description) (p : Probe) → is_exact d ≡ true → GiveSame like d → selects d p ≡ true → hash_of_description key d ≡ hash_of_probe key like p
 exact_hash key like d p exact same sel =
-    let plain = all4 (list_all is_plain d.provider) (list_all is_plain d.«module») (list_all is_plain d.function) (list_all is_plain d.name) exact in
-    let match = all4 (field_matches d.provider p.provider) (field_matches d.«module» p.probemod) (field_matches d.function p.probefunc) (field_matches d.name p.name) sel in
-    let a = exact_field like.provider d.provider p.provider same.provider plain.first match.first in
-    let b = exact_field like.«module» d.«module» p.probemod same.probemod plain.second match.second in
-    let c = exact_field like.function d.function p.probefunc same.probefunc plain.third match.third in
-    let e = exact_field like.name d.name p.name same.name plain.fourth match.fourth in
+    let plain = all_four (list_all is_plain d.provider) (list_all is_plain d.«module») (list_all is_plain d.function) (list_all is_plain d.name) exact in
+    let match = all_four (field_matches d.provider p.provider) (field_matches d.«module» p.probemod) (field_matches d.function p.probefunc) (field_matches d.name p.name) sel in
+    let a = exact_field like.provider d.provider p.provider same.provider plain.0 match.0 in
+    let b = exact_field like.«module» d.«module» p.probemod same.probemod plain.1 match.1 in
+    let c = exact_field like.function d.function p.probefunc same.probefunc plain.2 match.2 in
+    let e = exact_field like.name d.name p.name same.name plain.3 match.3 in
     ap₂ (λ x y. hash_of_names key x y d.function d.name) a b
     ∙ ap₂ (λ x y. hash_of_names key (where_given like.provider p.provider) (where_given like.«module» p.probemod) x y) c e
 
@@ -113,26 +115,11 @@ module _ (key : HashKey) where
 pub so_far : ℕ → Probe → ℕ × Described → Bool
 so_far k p x = nat_lt x.1.kind k && selects x.1.description.now p
 
-and_true : (b : Bool) → (b && true) ≡ b
-and_true true = refl
-and_true false = refl
-
-and_false : (b : Bool) → (b && false) ≡ false
-and_false true = refl
-and_false false = refl
-
-lt_or : (a k : ℕ) → nat_lt a (k + 1) ≡ (nat_lt a k || (a == k))
-lt_or a k = grind (arith, nat_tests)
-
 or_at : (a k : ℕ) (s : Bool) → (nat_lt a (k + 1) && s) ≡ ((nat_lt a k && s) || ((a == k) && s))
-or_at a k true = and_true (nat_lt a (k + 1)) ∙ lt_or a k ∙ sym (ap₂ (λ x y. x || y) (and_true (nat_lt a k)) (and_true (a == k)))
-or_at a k false = and_false (nat_lt a (k + 1)) ∙ sym (ap₂ (λ x y. x || y) (and_false (nat_lt a k)) (and_false (a == k)))
+or_at a k s = grind (arith, nat_tests)
 
 apart_at : (a k : ℕ) (s : Bool) → (nat_lt a k && s) ≡ true → ((a == k) && s) ≡ false
-apart_at a k s e =
-    let lt = (and_parts (nat_lt a k) s e).0 in
-    let ne : (a == k) ≡ false = grind (arith, nat_tests) in
-    ap (λ b. b && s) ne
+apart_at a k s e = grind (arith, nat_tests)
 
 from_of : (n : ℕ) (xs : List (ℕ × Described)) → AllFrom n (given_of xs) → AreFrom n (map (λ x. x.1.clause) xs)
 from_of n [] h = tt

@@ -1,29 +1,21 @@
 -- The descriptions of clauses, one clause after the other.
-use Rattle.std.specs.Prelude.{◌≡◌, ℕ, ◌+◌, ◌<◌, ◌≤◌, List, [], ◌∷◌, ◌++◌, length, map, sum_by}
-use Rattle.std.specs.List.{AllZip}
-use Rattle.std.proofs.Common.{sym, ap, ◌∙◌, subst, arith, get_or, take, length-append}
-use Rattle.std.proofs.lemmas.List.{get_or-map, length-map, map-append, take_all, take_more}
-use Rattle.std.proofs.lemmas.List.Sums.{sum_by-append, sum_by-cons}
+use Rattle.std.proofs.Common.{◌≡◌, ℕ, ◌+◌, ◌<◌, ◌≤◌, List, [], ◌∷◌, ◌++◌, length, map, sum_by, sym}
+use Rattle.std.proofs.Common.{ap, ◌∙◌, subst, arith, get_or, take, take_all}
+use Rattle.std.proofs.lemmas.List.{get_or-map, length-map, map-append, map_push, take_more}
+use Rattle.std.proofs.lemmas.List.Sums.{sum_by_more, sum_by_push}
 use Rattle.std.proofs.lemmas.Option.{get_or_from_slice_get}
 use Rattle.std.proofs.lemmas.Slice.Zip.{AllZip-long}
-use Rattle.d_parser.specs.declared.tree.Description.{Description}
-use Rattle.d_types.specs.Typed.{ClauseMeant}
+use Rattle.replay_core.specs.Vocabulary.{AllZip, Description, ClauseMeant}
 use Rattle.replay_core.proofs.Turning.{zip_at}
-
-pub one_longer : {A : Type 0} (old new : List A) (d : A) → new ≡ old ++ d ∷ [] → length new ≡ length old + 1
-one_longer old new d pushed = ap length pushed ∙ length-append old (d ∷ [])
-
-sum_one : {A : Type 0} (h : A → ℕ) (x : A) → sum_by h (x ∷ []) ≡ h x
-sum_one h x = let e = sum_by-cons h x [] in omega arith
 
 module _ {A C : Type 0} (now : A → List Description) where
   pub probes_more : (probes : C → ℕ) (xs : List C) (i : ℕ) (x : C) (old new : List A) (d : A) → i < length xs → x ≡ get_or xs i x → new ≡ old ++ d ∷ [] → length (now d) ≡ probes x
       → sum_by length (map now old) ≡ sum_by probes (take i xs) → sum_by length (map now new) ≡ sum_by probes (take (i + 1) xs)
   probes_more probes xs i x old new d lt is pushed same so_far =
-      ap (λ l. sum_by length (map now l)) pushed ∙ ap (sum_by length) (map-append now old (d ∷ []))
-      ∙ sum_by-append length (map now old) (now d ∷ []) ∙ ap (λ n. sum_by length (map now old) + n) (sum_one length (now d) ∙ same)
-      ∙ ap (λ n. n + probes x) so_far ∙ ap (λ n. sum_by probes (take i xs) + n) (sym (sum_one probes x)) ∙ sym (sum_by-append probes (take i xs) (x ∷ []))
-      ∙ ap (sum_by probes) (ap (λ y. take i xs ++ y ∷ []) is ∙ sym (take_more xs i x lt))
+      let more = sum_by_more probes xs i x lt in
+      let item = ap probes is in
+      let size = ap (λ l. sum_by length (map now l)) pushed ∙ ap (sum_by length) (map_push now old d) ∙ sum_by_push length (map now old) (now d) in
+      omega arith
 
   pub meaning_more : (means : C → ClauseMeant → Type 0) (xs : List C) (cs : List ClauseMeant) (i : ℕ) (x : C) (old new : List A) (d : A) → i < length xs → x ≡ get_or xs i x
       → new ≡ old ++ d ∷ [] → ((c : ClauseMeant) → means x c → now d ≡ c.descriptions) → AllZip means xs cs

@@ -1,9 +1,8 @@
 -- Lists of indices, merged.
-use Rattle.std.proofs.Common.{◌≡◌, ◌⊎◌, ℕ, zero, suc, ◌<◌, ◌≤◌, Bool, true, false, cond, ◌||◌}
-use Rattle.std.proofs.Common.{List, [], ◌∷◌, ◌++◌, filter, map, length, take, drop, get_or}
-use Rattle.std.proofs.Common.{refl, sym, ap, ap₂, ◌∙◌, subst, ⊎_elim, arith, append_assoc}
-use Rattle.std.specs.Prelude.{nat_lt, if◌then◌else◌}
-use Rattle.std.proofs.lemmas.Bool.{cases_order}
+use Rattle.std.proofs.Common.{◌≡◌, ◌⊎◌, ℕ, zero, suc, ◌<◌, ◌≤◌, Bool, true, false, cond, ◌||◌, List}
+use Rattle.std.proofs.Common.{[], ◌∷◌, ◌++◌, filter, map, length, take, drop, get_or, refl, sym, ap}
+use Rattle.std.proofs.Common.{ap₂, ◌∙◌, subst, ⊎_elim, arith, append_assoc, nat_lt, if◌then◌else◌}
+use Rattle.std.proofs.lemmas.Bool.{cases_order, cond_both}
 use Rattle.std.proofs.lemmas.Bool.Decides.{nat_tests}
 use Rattle.replay_core.specs.Steps.Indices.{front_below, merge, rest_from}
 
@@ -54,15 +53,12 @@ at_front : (n : ℕ) (ps : List ℕ) → AreFrom n ps → (front_below n ps ≡ 
 at_front n [] are = (refl, refl)
 at_front n (p ∷ ps) are = at_higher n p ps are.0
 
-same_from : (n m : ℕ) (ps : List ℕ) → n ≡ m → AreFrom n ps → AreFrom m ps
-same_from n m ps e are = subst (λ k. AreFrom k ps) e are
-
 first_of_right : (n : ℕ) (ps more : List ℕ) → AreFrom n ps → AreFrom n more → merge ps (n ∷ more) ≡ n ∷ merge ps more
 first_of_right n [] more are on = refl
 first_of_right n (p ∷ ps) more are on = ⊎_elim
     (λ (same : n ≡ p).
     let at = at_higher p n more (omega arith) in
-    let up = at_front p more (same_from n p more same on) in
+    let up = at_front p more (subst (λ k. AreFrom k more) same on) in
     ap₂ (λ f l. f ++ p ∷ merge ps l) at.0 at.1
     ∙ ap (λ l. p ∷ l) (first_of_right n ps more are.1 on)
     ∙ ap (λ k. k ∷ n ∷ merge ps more) (sym same)
@@ -82,11 +78,9 @@ module _ {X : Type 0} (index : X → ℕ) where
 
   from_some : (n : ℕ) (test : X → Bool) (xs : List X) → AreFrom n (map index xs) → AreFrom n (map index (filter test xs))
   from_some n test [] are = tt
-  from_some n test (x ∷ xs) are = here (test x) (from_some n test xs are.1)
-    where
-      here : (b : Bool) → AreFrom n (map index (filter test xs)) → AreFrom n (map index (cond b (x ∷ filter test xs) (filter test xs)))
-      here true more = (are.0, more)
-      here false more = more
+  from_some n test (x ∷ xs) are =
+      let more = from_some n test xs are.1 in
+      cond_both (test x) (x ∷ filter test xs) (filter test xs) (λ l. AreFrom n (map index l)) (λ yes. (are.0, more)) (λ no. more)
 
   -- those that pass one test merged with those that pass another
   pub merges : (one other both : X → Bool) → ((x : X) → both x ≡ (one x || other x)) → ((x : X) → one x ≡ true → other x ≡ false)

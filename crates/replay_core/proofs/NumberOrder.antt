@@ -1,11 +1,9 @@
 -- Lists sorted by number.
 use Rattle.std.proofs.Common.{take, drop, zero, true, false, ltb, leb, ◌+◌, subst, length-drop}
-use Rattle.std.specs.List.Sorted.{IsPartitionPoint}
-use Rattle.std.proofs.lemmas.List.{get_or-drop}
-use Rattle.std.proofs.Common.{◌≡◌, ◌≢◌, ◌⊎◌, ℕ, suc, ◌==◌, ◌<◌, ◌≤◌, ◌&&◌, not, cond, List, [], ◌∷◌}
-use Rattle.std.proofs.Common.{length, get_or, refl, sym, ap, ◌∙◌, ⊎_elim, arith, eq-eqb, ne_eqb}
-use Rattle.std.specs.List.Sorted.{IsNonDecreasingBy, IsPermutation, IsStableByKey, ties}
-use Rattle.std.specs.Ordering.{nat_cmp, is_lt}
+use Rattle.std.proofs.Common.{get_or-drop, ◌≡◌, ◌≢◌, ◌⊎◌, ℕ, suc, ◌==◌, ◌<◌, ◌≤◌, ◌&&◌, not, cond}
+use Rattle.std.proofs.Common.{List, [], ◌∷◌, length, get_or, refl, sym, ap, ◌∙◌, ⊎_elim, arith}
+use Rattle.std.proofs.Common.{eq-eqb, ne_eqb, IsPermutation, nat_cmp, is_lt}
+use Rattle.std.specs.List.Sorted.{IsPartitionPoint, IsNonDecreasingBy, IsStableByKey, ties}
 use Rattle.std.proofs.lemmas.List.Sorted.{length_permutation}
 use Rattle.std.proofs.lemmas.List.Elements.{filter_agree}
 use Rattle.std.proofs.lemmas.Bool.{cases_eq, cases_order}
@@ -33,10 +31,10 @@ module _ {T : Type 0} where
   same_items (x ∷ xs) [] up vp each = let e = sym (with_here x.0 x xs refl) ∙ each x.0 in cc
   same_items (x ∷ xs) (y ∷ ys) up vp each = ⊎_elim
       (λ (is : x.0 ≡ y.0).
-      let whole : x ∷ with_number x.0 xs ≡ y ∷ with_number x.0 ys = sym (with_here x.0 x xs refl) ∙ each x.0 ∙ with_here x.0 y ys (sym is) in
-      let first : x ≡ y = cc in
+      let heads : (k : ℕ) → x.0 ≡ k → x ∷ with_number k xs ≡ y ∷ with_number k ys = λ k at. sym (with_here k x xs at) ∙ each k ∙ with_here k y ys (sym is ∙ at) in
+      let first : x ≡ y = let e = heads x.0 refl in cc in
       let rest = same_items xs ys up.1 vp.1 (λ k. ⊎_elim
-      (λ (at : x.0 ≡ k). let one : x ∷ with_number k xs ≡ y ∷ with_number k ys = sym (with_here k x xs at) ∙ each k ∙ with_here k y ys (sym is ∙ at) in cc)
+      (λ (at : x.0 ≡ k). let e = heads k at in cc)
       (λ (ne : x.0 ≢ k). sym (with_other k x xs ne) ∙ each k ∙ with_other k y ys (λ e. ne (is ∙ e)))
       (cases_eq x.0 k)) in
       ap (λ e. e ∷ xs) first ∙ ap (λ l. y ∷ l) rest)
@@ -99,18 +97,12 @@ module _ {T : Type 0} where
       ∙ sym (with_here n x xs (same 0 x (omega arith)))
 
   -- what comes after those of lesser numbers
-  pub after_less : (n : ℕ) (xs : List (ℕ × T)) (i : ℕ) → ((k : ℕ) (d : ℕ × T) → k < i → (get_or xs k d).0 < n) → i ≤ length xs → with_number n xs ≡ with_number n (drop i xs)
+  after_less : (n : ℕ) (xs : List (ℕ × T)) (i : ℕ) → ((k : ℕ) (d : ℕ × T) → k < i → (get_or xs k d).0 < n) → i ≤ length xs → with_number n xs ≡ with_number n (drop i xs)
   after_less n xs zero less le = refl
   after_less n [] (suc i) less le = absurd (omega arith)
   after_less n (x ∷ xs) (suc i) less le =
       with_other n x xs (λ e. let lt = less 0 x (omega arith) in omega arith)
       ∙ after_less n xs i (λ k d lt. less (suc k) d (omega arith)) (omega arith)
-
-  pub sought : (n : ℕ) (xs : List (ℕ × T)) (from count : ℕ) → from ≤ length xs → count ≤ length (drop from xs)
-      → ((k : ℕ) (d : ℕ × T) → k < from → (get_or xs k d).0 < n) → ((k : ℕ) (d : ℕ × T) → k < count → (get_or (drop from xs) k d).0 ≡ n)
-      → ((k : ℕ) (d : ℕ × T) → count ≤ k → k < length (drop from xs) → n < (get_or (drop from xs) k d).0)
-      → take count (drop from xs) ≡ with_number n xs
-  sought n xs from count within inside less same more = front_of n (drop from xs) count same more inside ∙ sym (after_less n xs from less within)
 
   -- those between the first that is no less and the first that is more
   pub sought_between : (n : ℕ) (xs rest : List (ℕ × T)) (less count : ℕ) → less ≤ length xs → rest ≡ drop less xs → IsPartitionPoint (λ y. ltb y.0 n ≡ true) (λ y. ltb y.0 n ≡ false) xs less
@@ -131,4 +123,4 @@ module _ {T : Type 0} where
       let more : (k : ℕ) (d : ℕ × T) → count ≤ k → k < length (drop less xs) → n < (get_or (drop less xs) k d).0 = λ k d from lt.
       let t : leb (get_or (drop less xs) k d).0 n ≡ false = subst (λ l. leb (get_or l k d).0 n ≡ false) is (second.1 k d from (omega arith)) in
       grind (arith, nat_tests) in
-      ap (take count) is ∙ sought n xs less count within (omega arith) low same more
+      ap (take count) is ∙ front_of n (drop less xs) count same more (omega arith) ∙ sym (after_less n xs less low within)

@@ -1,29 +1,17 @@
 -- The tests of patterns decide what they are to say.
 use Rattle.std.proofs.Common.{◌≡◌, ◌≢◌, ℕ, suc, ◌==◌, inl, inr, ⊎_elim, ◌↔◌, Bool, true, false}
-use Rattle.std.proofs.Common.{cond, ◌&&◌, List, [], ◌∷◌, ◌++◌, length, All, refl, sym, ap}
-use Rattle.std.proofs.Common.{◌∙◌, subst, arith}
-use Rattle.std.specs.Prelude.{not, IsTrue, take, ◌≤◌}
-use Rattle.std.specs.List.{list_all, zip}
-use Rattle.std.proofs.lemmas.Bool.{and_from, and_parts, or_cases, or_left, or_right}
-use Rattle.std.proofs.lemmas.Bool.Decides.{Decides-eqb}
-use Rattle.d_parser.specs.declared.tree.Description.{Description}
+use Rattle.std.proofs.Common.{cond, ◌&&◌, List, [], ◌∷◌, ◌++◌, length, All, refl, sym, ap, ◌∙◌}
+use Rattle.std.proofs.Common.{subst, arith, not, IsTrue, take, ◌≤◌, zip}
+use Rattle.std.specs.List.{list_all}
+use Rattle.std.proofs.lemmas.Bool.{and_from, and_parts, both_ways, not-true, or_cases, or_left}
+use Rattle.std.proofs.lemmas.Bool.{or_right}
+use Rattle.std.proofs.lemmas.Bool.Decides.{Decides-and, Decides-eqb, same_from_decides}
 use Rattle.firings.specs.declared.unit.Probe.{Probe}
+use Rattle.replay_core.specs.Vocabulary.{Description}
 use Rattle.replay_core.specs.Patterns.{Selects, selects, Takes, Matches, MatchesField}
-use Rattle.replay_core.specs.Patterns.{is_same_or_question, passes_after}
+use Rattle.replay_core.specs.Patterns.{is_same_or_question, passes_after, passes_after_one, matches}
+use Rattle.replay_core.specs.Patterns.{field_matches}
 use Rattle.replay_core.specs.Steps.Patterns.{is_plain}
-use Rattle.replay_core.specs.Patterns.{passes_after_one, matches, field_matches}
-
--- ---- tests
-
-not_true : (a : Bool) → not a ≡ true → a ≡ true → ⊥
-not_true true e x = cc
-not_true false e x = cc
-
-pub same_test : {P : Type 0} (a b : Bool) → (IsTrue a ↔ P) → (IsTrue b ↔ P) → a ≡ b
-same_test true true x y = refl
-same_test true false x y = sym (y.1 (x.0 refl))
-same_test false true x y = x.1 (y.0 refl)
-same_test false false x y = refl
 
 -- ---- one byte
 
@@ -85,8 +73,8 @@ match_itself [] = refl
 match_itself (p ∷ pattern) = (p ∷ [], pattern, refl, Takes.itself refl, match_itself pattern)
 
 plain_takes : (p : ℕ) (own : List ℕ) → is_plain p ≡ true → Takes p own → own ≡ p ∷ []
-plain_takes p own plain (Takes.any e) = absurd (not_true (p == 42) (and_parts (not (p == 42)) (not (p == 63)) plain).0 ((Decides-eqb p 42).1 e))
-plain_takes p own plain (Takes.one b q e) = absurd (not_true (p == 63) (and_parts (not (p == 42)) (not (p == 63)) plain).1 ((Decides-eqb p 63).1 q))
+plain_takes p own plain (Takes.any e) = absurd (both_ways (p == 42) (not-true (p == 42) (and_parts (not (p == 42)) (not (p == 63)) plain).0) ((Decides-eqb p 42).1 e))
+plain_takes p own plain (Takes.one b q e) = absurd (both_ways (p == 63) (not-true (p == 63) (and_parts (not (p == 42)) (not (p == 63)) plain).1) ((Decides-eqb p 63).1 q))
 plain_takes p own plain (Takes.itself e) = e
 
 literal_is : (pattern text : List ℕ) → list_all is_plain pattern ≡ true → Matches pattern text → pattern ≡ text
@@ -107,30 +95,21 @@ after_there test (b ∷ text) e = ⊎_elim
     (λ (x : passes_after test text ≡ true). let r = after_there test text x in (b ∷ r.0, r.1, ap (λ l. b ∷ l) r.2, r.3))
     (or_cases (test (b ∷ text)) (passes_after test text) e)
 
-here : (test : List ℕ → Bool) (text : List ℕ) → test text ≡ true → passes_after test text ≡ true
-here test [] e = e
-here test (b ∷ text) e = or_left (test (b ∷ text)) (passes_after test text) e
-
 after_back : (test : List ℕ → Bool) (text a b : List ℕ) → text ≡ a ++ b → test b ≡ true → passes_after test text ≡ true
-after_back test text [] b e t = here test text (ap test e ∙ t)
+after_back test [] [] b e t = ap test e ∙ t
+after_back test (y ∷ text) [] b e t = or_left (test (y ∷ text)) (passes_after test text) (ap test e ∙ t)
 after_back test [] (x ∷ a) b e t = cc
 after_back test (y ∷ text) (x ∷ a) b e t =
     let rest : text ≡ a ++ b = cc in
     or_right (test (y ∷ text)) (passes_after test text) (after_back test text a b rest t)
 
-one_there : (p : ℕ) (pattern text : List ℕ) → ((rest : List ℕ) → matches pattern rest ≡ true → Matches pattern rest) → passes_after_one p (matches pattern) text ≡ true → Matches (p ∷ pattern) text
-one_there p pattern [] more e = cc
-one_there p pattern (b ∷ text) more e =
-    let both = and_parts (is_same_or_question (p, b)) (matches pattern text) e in
-    (b ∷ [], text, refl, same_takes p b both.0, more text both.1)
-
-star_there : (p : ℕ) (pattern text : List ℕ) → ((rest : List ℕ) → matches pattern rest ≡ true → Matches pattern rest) → p ≡ 42 → passes_after (matches pattern) text ≡ true → Matches (p ∷ pattern) text
-star_there p pattern text more is e = let r = after_there (matches pattern) text e in (r.0, r.1, r.2, Takes.any is, more r.1 r.3)
-
 step_there : (p : ℕ) (pattern text : List ℕ) (c : Bool) → (p == 42) ≡ c → ((rest : List ℕ) → matches pattern rest ≡ true → Matches pattern rest)
     → cond c (passes_after (matches pattern) text) (passes_after_one p (matches pattern) text) ≡ true → Matches (p ∷ pattern) text
-step_there p pattern text true is more e = star_there p pattern text more ((Decides-eqb p 42).0 is) e
-step_there p pattern text false is more e = one_there p pattern text more e
+step_there p pattern text true is more e = let r = after_there (matches pattern) text e in (r.0, r.1, r.2, Takes.any ((Decides-eqb p 42).0 is), more r.1 r.3)
+step_there p pattern [] false is more e = cc
+step_there p pattern (b ∷ text) false is more e =
+    let both = and_parts (is_same_or_question (p, b)) (matches pattern text) e in
+    (b ∷ [], text, refl, same_takes p b both.0, more text both.1)
 
 pub matches_there : (pattern text : List ℕ) → matches pattern text ≡ true → Matches pattern text
 matches_there [] [] e = refl
@@ -159,39 +138,17 @@ field_is (p ∷ pattern) text = (λ e. inr (matches_there (p ∷ pattern) text e
 -- an answer on the pattern is one on the field, where it isn't empty
 pub field_answer : (pattern text : List ℕ) (r : Bool) → pattern ≢ [] → (IsTrue r ↔ Matches pattern text) → r ≡ field_matches pattern text
 field_answer [] text r some is = absurd (some refl)
-field_answer (p ∷ pattern) text r some is = same_test r (matches (p ∷ pattern) text) is (matches_is (p ∷ pattern) text)
-
-pub record All4 (a b c d : Bool) : Type 0 where
-  pub first : a ≡ true
-  pub second : b ≡ true
-  pub third : c ≡ true
-  pub fourth : d ≡ true
-
-pub all4 : (a b c d : Bool) → (a && b && c && d) ≡ true → All4 a b c d
-all4 a b c d e =
-    let three = and_parts (a && b && c) d e in
-    let two = and_parts (a && b) c three.0 in
-    let one = and_parts a b two.0 in
-    record { first = one.0; second = one.1; third = two.1; fourth = three.1 }
+field_answer (p ∷ pattern) text r some is = same_from_decides r (matches (p ∷ pattern) text) is (matches_is (p ∷ pattern) text)
 
 -- the test of a description decides whether it matches
 pub selected : (d : Description) (p : Probe) → IsTrue (selects d p) ↔ Selects d p
-selected d p = (there, back)
-  where
-    there : IsTrue (selects d p) → Selects d p
-    there e =
-        let all = all4 (field_matches d.provider p.provider) (field_matches d.«module» p.probemod) (field_matches d.function p.probefunc) (field_matches d.name p.name) e in
-        record {
-          provider = (field_is d.provider p.provider).0 all.first;
-          probemod = (field_is d.«module» p.probemod).0 all.second;
-          probefunc = (field_is d.function p.probefunc).0 all.third;
-          name = (field_is d.name p.name).0 all.fourth;
-        }
-
-    back : Selects d p → IsTrue (selects d p)
-    back m =
-        and_from (field_matches d.provider p.provider && field_matches d.«module» p.probemod && field_matches d.function p.probefunc) (field_matches d.name p.name)
-        (and_from (field_matches d.provider p.provider && field_matches d.«module» p.probemod) (field_matches d.function p.probefunc)
-        (and_from (field_matches d.provider p.provider) (field_matches d.«module» p.probemod) ((field_is d.provider p.provider).1 m.provider) ((field_is d.«module» p.probemod).1 m.probemod))
-        ((field_is d.function p.probefunc).1 m.probefunc))
-        ((field_is d.name p.name).1 m.name)
+selected d p =
+    let a = field_matches d.provider p.provider in
+    let b = field_matches d.«module» p.probemod in
+    let f = field_matches d.function p.probefunc in
+    let n = field_matches d.name p.name in
+    let first = Decides-and a b (field_is d.provider p.provider) (field_is d.«module» p.probemod) in
+    let all = Decides-and (a && b && f) n (Decides-and (a && b) f first (field_is d.function p.probefunc)) (field_is d.name p.name) in (
+      λ e. let is = all.0 e in record { provider = is.0.0.0; probemod = is.0.0.1; probefunc = is.0.1; name = is.1 },
+      λ m. all.1 (((m.provider, m.probemod), m.probefunc), m.name),
+    )

@@ -1,10 +1,9 @@
 -- Clauses that run several times in a row.
-use Rattle.std.proofs.Common.{◌≡◌, ℕ, zero, suc, ◌+◌, List, [], ◌∷◌, ◌++◌, length, get_or, set}
-use Rattle.std.proofs.Common.{◌<◌, ◌==◌, ◌&&◌, All, ne_eqb, refl, sym, ap, ap₂, ◌∙◌, arith, append_assoc, append-nil}
-use Rattle.std.specs.Bool.{Decides}
-use Rattle.std.specs.Prelude.{replicate}
+use Rattle.std.proofs.Common.{◌≡◌, ℕ, zero, suc, ◌+◌, List, [], ◌∷◌, ◌++◌, length, get_or, set, ◌<◌}
+use Rattle.std.proofs.Common.{◌==◌, ◌&&◌, All, ne_eqb, refl, sym, ap, ap₂, ◌∙◌, arith, append_assoc}
+use Rattle.std.proofs.Common.{append-nil, Decides, replicate, length-append}
 use Rattle.std.proofs.lemmas.Bool.Decides.{Decides-and, Decides-eqb, Decides-like}
-use Rattle.std.proofs.lemmas.List.{length-append, length-replicate, replicate_more}
+use Rattle.std.proofs.lemmas.List.{length-replicate, replicate_more}
 use Rattle.replay_core.specs.declared.selection.clause_indices.Repeat.{Repeat}
 use Rattle.replay_core.specs.Indices.{indices_in_turn}
 
@@ -44,5 +43,3 @@ none_at_all (r ∷ rest) taken =
     let some : length (r ∷ rest) ≡ 0 → ⊥ = λ e. omega arith in
     let some_in_turn : length (indices_in_turn (r ∷ rest)) ≡ 0 → ⊥ = λ e. omega (arith, all, front, here) in
     ne_eqb (length (r ∷ rest)) 0 some ∙ sym (ne_eqb (length (indices_in_turn (r ∷ rest))) 0 some_in_turn)
-
--- ---- indices that are taken

@@ -1,21 +1,14 @@
 -- Clauses that are selected, by their indices.
-use Rattle.std.specs.Prelude.{◌≡◌, ℕ, zero, suc, ◌+◌, ◌<◌, ◌≤◌, List, [], ◌∷◌, ◌++◌, All}
-use Rattle.std.specs.Prelude.{map, length, slice_get}
-use Rattle.std.specs.Borrow.{Bor}
-use Rattle.std.specs.Prelude.{IfSome, None, Option, Some}
-use Rattle.std.specs.List.{AllZip}
-use Rattle.std.proofs.Common.{refl, ap, ◌∙◌, subst, sym, get_or, ⊎_elim}
-use Rattle.std.proofs.Common.{take}
+use Rattle.std.proofs.Common.{◌≡◌, ℕ, zero, suc, ◌+◌, ◌<◌, ◌≤◌, List, [], ◌∷◌, ◌++◌, All, map}
+use Rattle.std.proofs.Common.{length, slice_get, Bor, IfSome, None, Option, Some, refl, ap, ◌∙◌}
+use Rattle.std.proofs.Common.{subst, sym, get_or, ⊎_elim, take}
 use Rattle.std.proofs.lemmas.List.{get_or-map, length-map, map-append, take_more}
-use Rattle.std.proofs.lemmas.List.Elements.{All-map}
 use Rattle.std.proofs.lemmas.Option.{get_or_from_slice_get, slice_get-map, slice_get_within}
 use Rattle.firings.specs.declared.unit.Probe.{Probe}
-use Rattle.firings.specs.Ends.{begin_of, end_of, with_ends}
-use Rattle.firings.specs.Stored.{AreIndices, Extends}
-use Rattle.firings.specs.declared.firing.Firing.{Firing}
 use Rattle.firings.proofs.Placed.{index_more, placed}
 use Rattle.firings.proofs.Stored.{named_at, named_in}
-use Rattle.d_types.specs.Typed.{ScriptMeant}
+use Rattle.replay_core.specs.Vocabulary.{begin_of, end_of, with_ends, AreIndices, Extends, Firing}
+use Rattle.replay_core.specs.Vocabulary.{ScriptMeant}
 use Rattle.replay_core.specs.Patterns.{probe_of}
 use Rattle.replay_core.specs.Selecting.{AreFor, lent, list_at, selected_for, selected_in}
 
@@ -78,15 +71,6 @@ lists_more h t u indices probes i index p grows are there kept =
     rw (take_more others i (h p) (slice_get_within others i (h p) same), get_or_from_slice_get others i (h p) (h p) same) (index_more t u indices (take i others) index (h p) grows are kept)
 
 -- ---- what a lane is given
-
-pub zip_length : {A B : Type 0} (R : A → B → Type 0) (xs : List A) (ys : List B) → AllZip R xs ys → length xs ≡ length ys
-zip_length R [] [] zip = refl
-zip_length R [] (y ∷ ys) zip = absurd zip
-zip_length R (x ∷ xs) [] zip = absurd zip
-zip_length R (x ∷ xs) (y ∷ ys) zip = ap suc (zip_length R xs ys zip.1)
-
-pub selected_few : (own : Firing → List ℕ) (most : ℕ) (fs : List Firing) → ((f : Firing) → length (own f) ≤ most) → All (λ indices. length indices ≤ most) (map own fs)
-selected_few own most fs few = All-map (λ (indices : List ℕ). length indices ≤ most) own fs (λ k f lt. few (get_or fs k f))
 
 module _ (m : ScriptMeant) (trace : List Firing) (selected : List (List ℕ)) (are : AreFor trace selected m) where
   -- the indices that are lent for a firing are those of its clauses

@@ -1,13 +1,11 @@
 -- Patterns: runs without stars, and where they fit.
 use Rattle.std.proofs.Common.{◌≡◌, ◌≢◌, ℕ, suc, ◌+◌, ◌-◌, ◌≤◌, ◌<◌, ◌↔◌, Bool, List, [], ◌∷◌, ◌++◌}
 use Rattle.std.proofs.Common.{length, take, drop, All, refl, sym, ap, ◌∙◌, subst, arith}
-use Rattle.std.proofs.Common.{append_assoc, length-append, length-drop}
-use Rattle.std.proofs.lemmas.List.{take_all, take_at, drop_at, drop-append-le, take-append-drop}
-use Rattle.std.specs.Prelude.{IsTrue}
+use Rattle.std.proofs.Common.{append_assoc, length-append, length-drop, take_all, take_at, drop_at}
+use Rattle.std.proofs.Common.{take-append-drop, IsTrue}
+use Rattle.std.proofs.lemmas.List.{take_rest, drop-append-le}
+use Rattle.std.proofs.lemmas.List.Elements.{All-tail}
 use Rattle.replay_core.specs.Patterns.{Takes, Matches}
-
-plain_rest : (p : ℕ) (run : List ℕ) → All (λ p. p ≢ 42) (p ∷ run) → All (λ p. p ≢ 42) run
-plain_rest p run plain = λ k d lt. plain (suc k) d (omega arith)
 
 -- ---- patterns in parts
 
@@ -16,24 +14,11 @@ match_join [] ys a b x y = subst (λ l. Matches ys (l ++ b)) (sym x) y
 match_join (p ∷ xs) ys a b x y =
     (x.0, x.1 ++ b, ap (λ l. l ++ b) x.2 ∙ append_assoc x.0 x.1 b, x.3, match_join xs ys x.1 b x.4 y)
 
-pub record Parts (xs ys text : List ℕ) : Type 0 where
-  pub a : List ℕ
-  pub b : List ℕ
-  pub is : text ≡ a ++ b
-  pub first : Matches xs a
-  pub second : Matches ys b
-
-pub match_parts : (xs ys text : List ℕ) → Matches (xs ++ ys) text → Parts xs ys text
-match_parts [] ys text m = record { a = []; b = text; is = refl; first = refl; second = m }
+pub match_parts : (xs ys text : List ℕ) → Matches (xs ++ ys) text → (a : List ℕ) × (b : List ℕ) × (text ≡ a ++ b) × Matches xs a × Matches ys b
+match_parts [] ys text m = ([], text, refl, refl, m)
 match_parts (p ∷ xs) ys text m =
-    let rest = match_parts xs ys m.1 m.4 in
-    record {
-      a = m.0 ++ rest.a;
-      b = rest.b;
-      is = m.2 ∙ ap (λ l. m.0 ++ l) rest.is ∙ sym (append_assoc m.0 rest.a rest.b);
-      first = (m.0, rest.a, refl, m.3, rest.first);
-      second = rest.second;
-    }
+    let (a, b, is, first, second) = match_parts xs ys m.1 m.4 in
+    (m.0 ++ a, b, m.2 ∙ ap (λ l. m.0 ++ l) is ∙ sym (append_assoc m.0 a b), (m.0, a, refl, m.3, first), second)
 
 -- ---- stars
 
@@ -54,7 +39,7 @@ pub run_long : (run own : List ℕ) → All (λ p. p ≢ 42) run → Matches run
 run_long [] own plain m = ap length m
 run_long (p ∷ run) own plain m =
     let first = one_long p m.0 (plain 0 p (omega arith)) m.3 in
-    let others = run_long run m.1 (plain_rest p run plain) m.4 in
+    let others = run_long run m.1 (All-tail (λ p. p ≢ 42) p run plain) m.4 in
     let whole : length own ≡ length m.0 + length m.1 = ap length m.2 ∙ length-append m.0 m.1 in
     let sizes : length (p ∷ run) ≡ suc (length run) = refl in
     omega arith
@@ -77,13 +62,10 @@ star_passes run after b text plain other m = by m.0 m.1 m.2 m.4
     by : (own rest : List ℕ) → (b ∷ text) ≡ own ++ rest → Matches (run ++ after) rest → Matches (42 ∷ (run ++ after)) text
     by [] rest e more =
         let parts = match_parts run after rest more in
-        absurd (other (fits_front run parts.a parts.b (b ∷ text) plain parts.first (e ∙ parts.is)))
+        absurd (other (fits_front run parts.0 parts.1 (b ∷ text) plain parts.3 (e ∙ parts.2)))
     by (c ∷ own) rest e more =
         let parts : text ≡ own ++ rest = cc in
         (own, rest, parts, Takes.any refl, more)
-
-pub star_passed : (p : List ℕ) (b : ℕ) (text : List ℕ) → Matches (42 ∷ p) text → Matches (42 ∷ p) (b ∷ text)
-star_passed p b text m = star_takes_more p (b ∷ []) text m
 
 -- a run that doesn't fit the empty text isn't there
 pub nowhere : (run after : List ℕ) → All (λ p. p ≢ 42) run → ¬ Fits run [] → ¬ Matches (42 ∷ (run ++ after)) []
@@ -92,7 +74,7 @@ nowhere run after plain other m = by m.0 m.1 m.2 m.4
     by : (own rest : List ℕ) → [] ≡ own ++ rest → Matches (run ++ after) rest → ⊥
     by [] rest e more =
         let parts = match_parts run after rest more in
-        other (fits_front run parts.a parts.b [] plain parts.first (e ∙ parts.is))
+        other (fits_front run parts.0 parts.1 [] plain parts.3 (e ∙ parts.2))
     by (c ∷ own) rest e more = cc
 
 -- where the run fits, the rest matches after that place
@@ -102,12 +84,12 @@ first_serves run after text plain fits = (there, back)
     there : Matches (42 ∷ (run ++ 42 ∷ after)) text → Matches (42 ∷ after) (drop (length run) text)
     there m =
         let parts = match_parts run (42 ∷ after) m.1 m.4 in
-        let long = run_long run parts.a plain parts.first in
-        let front : text ≡ (m.0 ++ parts.a) ++ parts.b = m.2 ∙ ap (λ l. m.0 ++ l) parts.is ∙ sym (append_assoc m.0 parts.a parts.b) in
-        let size = length-append m.0 parts.a in
-        let le : length run ≤ length (m.0 ++ parts.a) = omega arith in
-        subst (λ l. Matches (42 ∷ after) l) (sym (ap (drop (length run)) front ∙ drop-append-le (length run) (m.0 ++ parts.a) parts.b le))
-        (star_takes_more after (drop (length run) (m.0 ++ parts.a)) parts.b parts.second)
+        let long = run_long run parts.0 plain parts.3 in
+        let front : text ≡ (m.0 ++ parts.0) ++ parts.1 = m.2 ∙ ap (λ l. m.0 ++ l) parts.2 ∙ sym (append_assoc m.0 parts.0 parts.1) in
+        let size = length-append m.0 parts.0 in
+        let le : length run ≤ length (m.0 ++ parts.0) = omega arith in
+        subst (λ l. Matches (42 ∷ after) l) (sym (ap (drop (length run)) front ∙ drop-append-le (length run) (m.0 ++ parts.0) parts.1 le))
+        (star_takes_more after (drop (length run) (m.0 ++ parts.0)) parts.1 parts.4)
 
     back : Matches (42 ∷ after) (drop (length run) text) → Matches (42 ∷ (run ++ 42 ∷ after)) text
     back m =
@@ -146,9 +128,9 @@ front_fits run after text plain = (there, back)
     there : Matches (run ++ 42 ∷ after) text → Fits run text × Matches (42 ∷ after) (drop (length run) text)
     there m =
         let parts = match_parts run (42 ∷ after) text m in
-        let long = run_long run parts.a plain parts.first in (
-          fits_front run parts.a parts.b text plain parts.first parts.is,
-          subst (λ l. Matches (42 ∷ after) l) (sym (ap (drop (length run)) parts.is ∙ drop_at parts.a parts.b (length run) long)) parts.second,
+        let long = run_long run parts.0 plain parts.3 in (
+          fits_front run parts.0 parts.1 text plain parts.3 parts.2,
+          subst (λ l. Matches (42 ∷ after) l) (sym (ap (drop (length run)) parts.2 ∙ drop_at parts.0 parts.1 (length run) long)) parts.4,
         )
 
     back : Fits run text × Matches (42 ∷ after) (drop (length run) text) → Matches (run ++ 42 ∷ after) text
@@ -158,25 +140,22 @@ front_fits run after text plain = (there, back)
 
 -- ---- steps of the code
 
-rest_is : (n k : ℕ) (rest : List ℕ) → n ≡ length rest - k → take n (drop k rest) ≡ drop k rest
-rest_is n k rest e = take_all n (drop k rest) (let d = length-drop k rest in omega arith)
-
 -- a run that is as long as the end of the text
-pub fits_last : (run text : List ℕ) (n : ℕ) (r : Bool) → length run ≤ length text → n ≡ length text - (length text - length run)
-    → (IsTrue r ↔ Fits run (take n (drop (length text - length run) text))) → IsTrue r ↔ Matches run (drop (length text - length run) text)
-fits_last run text n r long e fits =
+pub fits_last : (run text : List ℕ) (r : Bool) → length run ≤ length text → (IsTrue r ↔ Fits run (take (length text - (length text - length run)) (drop (length text - length run) text)))
+    → IsTrue r ↔ Matches run (drop (length text - length run) text)
+fits_last run text r long fits =
     let rest = drop (length text - length run) text in
-    let same = rest_is n (length text - length run) text e in
+    let same = take_rest text (length text - length run) in
     let whole : length run ≡ length rest = let d = length-drop (length text - length run) text in omega arith in
     fits_whole run rest r whole (subst (λ l. IsTrue r ↔ Fits run l) same fits)
 
-pub passed_more : (run text rest : List ℕ) (n : ℕ) → n ≡ length rest - 1 → All (λ p. p ≢ 42) run → ¬ Fits run rest → 1 ≤ length rest
+pub passed_more : (run text rest : List ℕ) → All (λ p. p ≢ 42) run → ¬ Fits run rest → 1 ≤ length rest
     → ((after : List ℕ) → Matches (42 ∷ (run ++ after)) text ↔ Matches (42 ∷ (run ++ after)) rest)
-    → (after : List ℕ) → Matches (42 ∷ (run ++ after)) text ↔ Matches (42 ∷ (run ++ after)) (take n (drop 1 rest))
-passed_more run text [] n e plain other some own after = absurd (omega arith)
-passed_more run text (b ∷ rest) n e plain other some own after =
-    subst (λ l. Matches (42 ∷ (run ++ after)) text ↔ Matches (42 ∷ (run ++ after)) l) (sym (rest_is n 1 (b ∷ rest) e))
-    (λ m. star_passes run after b rest plain other ((own after).0 m), λ m. (own after).1 (star_passed (run ++ after) b rest m))
+    → (after : List ℕ) → Matches (42 ∷ (run ++ after)) text ↔ Matches (42 ∷ (run ++ after)) (take (length rest - 1) (drop 1 rest))
+passed_more run text [] plain other some own after = absurd (omega arith)
+passed_more run text (b ∷ rest) plain other some own after =
+    subst (λ l. Matches (42 ∷ (run ++ after)) text ↔ Matches (42 ∷ (run ++ after)) l) (sym (take_rest (b ∷ rest) 1))
+    (λ m. star_passes run after b rest plain other ((own after).0 m), λ m. (own after).1 (star_takes_more (run ++ after) (b ∷ []) rest m))
 
 pub passed_none : (run text rest : List ℕ) → All (λ p. p ≢ 42) run → ¬ Fits run rest → length rest < 1
     → ((after : List ℕ) → Matches (42 ∷ (run ++ after)) text ↔ Matches (42 ∷ (run ++ after)) rest)
@@ -184,20 +163,20 @@ pub passed_none : (run text rest : List ℕ) → All (λ p. p ≢ 42) run → ¬
 passed_none run text [] plain other none own after m = nowhere run after plain other ((own after).0 m)
 passed_none run text (b ∷ rest) plain other none own after m = absurd (omega arith)
 
-pub found : (run text rest : List ℕ) (n : ℕ) → n ≡ length rest - length run → All (λ p. p ≢ 42) run → Fits run rest
+pub found : (run text rest : List ℕ) → All (λ p. p ≢ 42) run → Fits run rest
     → ((after : List ℕ) → Matches (42 ∷ (run ++ after)) text ↔ Matches (42 ∷ (run ++ after)) rest)
-    → (after : List ℕ) → Matches (42 ∷ (run ++ 42 ∷ after)) text ↔ Matches (42 ∷ after) (take n (drop (length run) rest))
-found run text rest n e plain fits own after =
+    → (after : List ℕ) → Matches (42 ∷ (run ++ 42 ∷ after)) text ↔ Matches (42 ∷ after) (take (length rest - length run) (drop (length run) rest))
+found run text rest plain fits own after =
     let serves = first_serves run after rest plain fits in
-    subst (λ l. Matches (42 ∷ (run ++ 42 ∷ after)) text ↔ Matches (42 ∷ after) l) (sym (rest_is n (length run) rest e))
+    subst (λ l. Matches (42 ∷ (run ++ 42 ∷ after)) text ↔ Matches (42 ∷ after) l) (sym (take_rest rest (length run)))
     (λ m. serves.0 ((own (42 ∷ after)).0 m), λ m. (own (42 ∷ after)).1 (serves.1 m))
 
 -- the pattern up to the first star, and after it
-pub wild_front : (pattern text run after : List ℕ) (n : ℕ) (r : Bool) → n ≡ length text - length run → pattern ≡ run ++ 42 ∷ after → All (λ p. p ≢ 42) run
-    → Fits run text → (IsTrue r ↔ Matches (42 ∷ after) (take n (drop (length run) text))) → IsTrue r ↔ Matches pattern text
-wild_front pattern text run after n r e is plain fits after_is =
+pub wild_front : (pattern text run after : List ℕ) (r : Bool) → pattern ≡ run ++ 42 ∷ after → All (λ p. p ≢ 42) run
+    → Fits run text → (IsTrue r ↔ Matches (42 ∷ after) (take (length text - length run) (drop (length run) text))) → IsTrue r ↔ Matches pattern text
+wild_front pattern text run after r is plain fits after_is =
     let front = front_fits run after text plain in
-    let same = rest_is n (length run) text e in (
+    let same = take_rest text (length run) in (
       λ t. subst (λ p. Matches p text) (sym is) (front.1 (fits, subst (Matches (42 ∷ after)) same (after_is.0 t))),
       λ m. after_is.1 (subst (Matches (42 ∷ after)) (sym same) (front.0 (subst (λ p. Matches p text) is m)).1),
     )

@@ -1,7 +1,6 @@
-use Rattle.std.specs.Prelude.{length, map, sum_by}
-use Rattle.std.proofs.Common.{arith, ap, ◌∙◌}
+use Rattle.std.proofs.Common.{length, map, sum_by, arith, ap, ◌∙◌}
 use Rattle.std.proofs.lemmas.Result.{IfOk-weaker}
-use Rattle.d_types.specs.Held.{slots_of}
+use Rattle.replay_core.specs.Vocabulary.{slots_of}
 use Rattle.replay_core.specs.Patterns.{probe_of}
 use Rattle.replay_core.specs.Indices.{indices_for}
 use Rattle.replay_core.proofs.FiringLemmas.{indices_few}

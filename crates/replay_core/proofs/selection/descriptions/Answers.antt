@@ -1,6 +1,6 @@
-use Rattle.std.specs.Prelude.{◌+◌, ◌<◌, length}
-use Rattle.std.proofs.Common.{arith, ◌∙◌, ap}
-use Rattle.replay_core.proofs.DescriptionLemmas.{meaning_all, meaning_more, one_longer, probes_more}
+use Rattle.std.proofs.Common.{◌+◌, ◌<◌, length, arith, ◌∙◌, ap}
+use Rattle.std.proofs.lemmas.List.{length_push}
+use Rattle.replay_core.proofs.DescriptionLemmas.{meaning_all, meaning_more, probes_more}
 use Rattle.replay_core.proofs.selection.descriptions.Goals as goal
 
 pub loop-clause-preserved : goal.loop-clause-preserved
@@ -12,7 +12,7 @@ loop-clause-preserved g c =
     let new = c.push.new.self.items in
     let inv = c.loop-clause.invariant in
     record {
-      each = one_longer old new c.descriptions.result c.in_ok-push.ensures.items ∙ ap (λ n. n + 1) inv.each;
+      each = ap length c.in_ok-push.ensures.items ∙ length_push old c.descriptions.result ∙ ap (λ n. n + 1) inv.each;
       probes = probes_more (λ d. d.now) g.C.Clause.probes xs i c.clause-item.result old new c.descriptions.result inside c.clause-item.is c.in_ok-push.ensures.items c.descriptions.ensures.probes inv.probes;
       meaning = λ slots cs zip.
           meaning_more (λ d. d.now) (λ c. g.C.Clause.means c slots) xs cs i c.clause-item.result old new c.descriptions.result inside c.clause-item.is c.in_ok-push.ensures.items (c.descriptions.ensures.meaning slots) zip (inv.meaning slots cs zip);

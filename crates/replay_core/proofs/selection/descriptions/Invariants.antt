@@ -1,8 +1,5 @@
-use Rattle.std.proofs.Common.{◌≡◌, length, map, take}
-use Rattle.std.specs.Prelude.{List, sum_by}
-use Rattle.std.specs.List.{AllZip}
-use Rattle.d_types.specs.Held.{Slots}
-use Rattle.d_types.specs.Typed.{ClauseMeant}
+use Rattle.std.proofs.Common.{◌≡◌, length, map, take, List, sum_by}
+use Rattle.replay_core.specs.Vocabulary.{AllZip, Slots, ClauseMeant}
 use Rattle.replay_core.proofs.selection.descriptions.Given as goal
 
 abbrev pub invariant-loop-clause : goal.invariant-loop-clause

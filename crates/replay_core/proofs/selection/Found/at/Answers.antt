@@ -1,5 +1,5 @@
 use Rattle.std.proofs.Common.{◌≡◌, ◌-◌, ◌∙◌, List, ℕ, Some, ap, arith, get_or, map, subst, sym}
-use Rattle.std.specs.Prelude.{slice_get, suc}
+use Rattle.std.proofs.Common.{slice_get, suc}
 use Rattle.replay_core.specs.Selecting.{list_at, selected_in}
 use Rattle.replay_core.proofs.SelectionLemmas.{row_selected}
 use Rattle.replay_core.proofs.selection.Found.at.Goals as goal

@@ -1,11 +1,9 @@
 use Rattle.std.proofs.Common.{◌≡◌, ◌+◌, ◌∙◌, List, ℕ, Some, ap, arith, map, subst, sym, take}
-use Rattle.std.specs.Prelude.{slice_get}
-use Rattle.firings.specs.Ends.{begin_of, end_of}
-use Rattle.firings.specs.Stored.{AreIndices}
-use Rattle.firings.specs.declared.firing.Firing.{Firing}
+use Rattle.std.proofs.Common.{slice_get, take_all}
+use Rattle.std.proofs.lemmas.List.{length-map}
 use Rattle.firings.specs.declared.unit.Probe.{Probe}
-use Rattle.std.proofs.lemmas.List.{length-map, take_all}
 use Rattle.firings.proofs.Stored.{extends_more, named_more}
+use Rattle.replay_core.specs.Vocabulary.{begin_of, end_of, AreIndices, Firing}
 use Rattle.replay_core.specs.Patterns.{probe_of}
 use Rattle.replay_core.specs.Indices.{indices_for}
 use Rattle.replay_core.proofs.SelectionLemmas.{lists_more, run_listed}

@@ -1,6 +1,5 @@
 use Rattle.std.proofs.Common.{◌≡◌, List, length, map, take}
-use Rattle.d_parser.specs.declared.tree.Description.{Description}
-use Rattle.firings.specs.Stored.{AreIndices, Extends}
+use Rattle.replay_core.specs.Vocabulary.{Description, AreIndices, Extends}
 use Rattle.replay_core.specs.Steps.Described.{IsTableOf}
 use Rattle.replay_core.specs.Indices.{indices_for}
 use Rattle.replay_core.proofs.selection.Found.new.Given as goal

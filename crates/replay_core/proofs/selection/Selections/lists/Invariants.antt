@@ -1,5 +1,4 @@
-use Rattle.std.proofs.Common.{◌≡◌, length, map, take}
-use Rattle.std.specs.Prelude.{slice_get}
+use Rattle.std.proofs.Common.{◌≡◌, length, map, take, slice_get}
 use Rattle.replay_core.specs.Selecting.{lent}
 use Rattle.replay_core.proofs.selection.Selections.lists.Given as goal
 

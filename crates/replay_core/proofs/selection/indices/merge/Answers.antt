@@ -1,8 +1,8 @@
 use Rattle.std.proofs.Common.{rules, arith, ◌≡◌, ◌∙◌, ◌++◌, sym, ap, [], length, vec_len}
 use Rattle.std.proofs.lemmas.Bool.Decides.{nat_tests}
 use Rattle.std.proofs.lemmas.List.{nil_from_length}
-use Rattle.replay_core.proofs.IndicesMerged.{merged_more, merged_none}
 use Rattle.replay_core.specs.Steps.Indices.{merge}
+use Rattle.replay_core.proofs.IndicesMerged.{merged_more, merged_none}
 use Rattle.replay_core.proofs.selection.indices.merge.Goals as goal
 
 pub returns-then-is_empty : goal.returns-then-is_empty

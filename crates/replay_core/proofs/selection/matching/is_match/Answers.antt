@@ -1,9 +1,9 @@
-use Rattle.std.proofs.Common.{refl, rules, sym, eqb-true}
+use Rattle.std.proofs.Common.{rules, sym, eqb-true}
 use Rattle.replay_core.proofs.Stars.{wild_front, no_front, run_long, fits_whole}
 use Rattle.replay_core.proofs.selection.matching.is_match.Goals as goal
 
 pub returns-then-begins : goal.returns-then-begins
-returns-then-begins c = wild_front _ _ c.in-Some.run'.now c.in-Some.behind.now _ _ refl c.in-Some.ensures.1 c.in-Some.ensures.0 (search rules) c.is_match_anywhere.ensures
+returns-then-begins c = wild_front _ _ c.in-Some.run'.now c.in-Some.behind.now _ c.in-Some.ensures.1 c.in-Some.ensures.0 (search rules) c.is_match_anywhere.ensures
 
 pub returns-else-begins : goal.returns-else-begins
 returns-else-begins c =

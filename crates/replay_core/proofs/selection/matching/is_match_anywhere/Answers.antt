@@ -1,4 +1,4 @@
-use Rattle.std.proofs.Common.{◌∷◌, arith, leb-true, refl, sym, subst}
+use Rattle.std.proofs.Common.{◌∷◌, arith, leb-true, sym, subst}
 use Rattle.replay_core.specs.Patterns.{Matches}
 use Rattle.replay_core.proofs.Stars.{last_fits, fits_last}
 use Rattle.replay_core.proofs.selection.matching.is_match_anywhere.Goals as goal
@@ -19,7 +19,7 @@ loop-run-preserved c =
 pub returns-then-pattern-text : goal.returns-then-pattern-text
 returns-then-pattern-text c =
     let last = last_fits c.loop-run.pattern.now c.loop-run.text.now c.in_default.ensures in
-    let whole = fits_last c.loop-run.pattern.now c.loop-run.text.now _ c.begins.result c.if-pattern-text.true refl c.begins.ensures in
+    let whole = fits_last c.loop-run.pattern.now c.loop-run.text.now c.begins.result c.if-pattern-text.true c.begins.ensures in
     (λ t. c.loop-run.invariant.1 (last.1 (c.if-pattern-text.true, whole.0 t)), λ m. whole.1 (last.0 (c.loop-run.invariant.0 m)).1)
 
 pub returns-else-pattern-text : goal.returns-else-pattern-text

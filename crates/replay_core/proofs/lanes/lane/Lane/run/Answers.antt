@@ -1,19 +1,17 @@
-use Rattle.std.specs.Prelude.{◌≡◌, ◌<◌, ℤ, All, Contains, length, map, if◌then◌else◌, is_ok, is_some}
-use Rattle.std.specs.Ordering.{int_eq}
-use Rattle.std.proofs.Common.{rules, arith, subst, sym, ap, ◌∙◌}
+use Rattle.std.proofs.Common.{◌≡◌, ◌<◌, ℤ, All, Contains, length, map, if◌then◌else◌, is_ok}
+use Rattle.std.proofs.Common.{is_some, int_eq, rules, arith, subst, sym, ap, ◌∙◌}
 use Rattle.std.proofs.lemmas.List.{length-map}
 use Rattle.std.proofs.lemmas.List.Elements.{Contains-push}
 use Rattle.std.proofs.lemmas.Result.{IfOk-weaker}
-use Rattle.d_types.specs.Held.{AreTypedOwn, slots_of}
+use Rattle.std.proofs.lemmas.Slice.Zip.{AllZip-long}
+use Rattle.replay_core.specs.Vocabulary.{AreTypedOwn, slots_of}
 use Rattle.replay_core.specs.Meaning.{at_start, firing_result, threads_after}
 use Rattle.replay_core.specs.Patterns.{probe_of}
 use Rattle.replay_core.specs.Seen.{piece_seen}
 use Rattle.replay_core.specs.Threads.{threads_of}
 use Rattle.replay_core.specs.Steps.AllMade.{all_made}
-use Rattle.replay_core.proofs.FiringLemmas.{goes_on, indices_within, some_same}
-use Rattle.replay_core.proofs.FiringLemmas.{all_made_are}
+use Rattle.replay_core.proofs.FiringLemmas.{goes_on, indices_within, some_same, all_made_are}
 use Rattle.replay_core.proofs.NotedLemmas.{firing_taken}
-use Rattle.replay_core.proofs.SelectionLemmas.{zip_length}
 use Rattle.replay_core.proofs.ThreadLemmas.{typed_after}
 use Rattle.replay_core.proofs.lanes.lane.Lane.run.Goals as goal
 
@@ -23,7 +21,7 @@ run_on_thread-requires-clause-runnable g c =
     let p = probe_of c.args.firing.now in
     let ds = map (λ c. c.descriptions) m.clauses in
     let size = length-map m.clauses (λ c. c.descriptions) in
-    let many = zip_length _ c.args.self.now.clauses.now m.clauses runs.clauses_mean.each in
+    let many = AllZip-long _ c.args.self.now.clauses.now m.clauses runs.clauses_mean.each in
     let held = c.args.self.now.room in
     record {
       there = subst (λ l. All (λ i. i < length c.args.self.now.clauses.now) l) (sym indices_are)

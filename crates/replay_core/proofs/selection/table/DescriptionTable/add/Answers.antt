@@ -1,8 +1,9 @@
 use Rattle.std.proofs.Common.{rules}
 use Rattle.replay_core.specs.Steps.Described.{IsOfKind}
 use Rattle.replay_core.proofs.DescribedLemmas.{kinds_more, of_exact, of_patterns}
+use Rattle.replay_core.proofs.selection.table.DescriptionTable.add.Goals.{then-is_exact}
+use Rattle.replay_core.proofs.selection.table.DescriptionTable.add.Goals.{else-is_exact}
 use Rattle.replay_core.proofs.selection.table.DescriptionTable.add.Goals as goal
-use Rattle.replay_core.proofs.selection.table.DescriptionTable.add.Goals.{then-is_exact, else-is_exact}
 
 pub returns-clause-kinds : goal.returns-clause-kinds
 returns-clause-kinds c = λ have.

@@ -1,5 +1,5 @@
 use Rattle.std.proofs.Common.{◌≡◌, List, filter, map}
-use Rattle.d_parser.specs.declared.tree.Description.{Description}
+use Rattle.replay_core.specs.Vocabulary.{Description}
 use Rattle.replay_core.specs.Steps.Described.{IsTableOf}
 use Rattle.replay_core.proofs.DescribedLemmas.{so_far}
 use Rattle.replay_core.proofs.selection.table.DescriptionTable.clauses.Given as goal
