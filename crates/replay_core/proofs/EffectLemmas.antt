@@ -1,55 +1,43 @@
 -- What a run notes, effect by effect.
-use Rattle.std.specs.Prelude.{◌≡◌, ◌%◌, ℕ, ℤ, List, [], ◌∷◌, ◌++◌, map, Bool, true, false, ◌||◌}
-use Rattle.std.specs.Prelude.{Option, None, Some, is_some, length, take, Ok, Err}
-use Rattle.std.specs.Option.{option_or}
-use Rattle.std.proofs.Common.{refl, sym, ap, ◌∙◌, subst}
-use Rattle.aggregations.specs.Table.{Aggregation, Contribution, StandsFor, contribution, functions_of}
-use Rattle.d_values.specs.declared.key.KeyPart.{KeyPart}
-use Rattle.d_types.specs.declared.effect.Effect.{Effect}
-use Rattle.d_types.specs.declared.effect.Effect.TheVariants as ef
-use Rattle.d_types.specs.Expressions.{Outcome, Has, Faults, with}
-use Rattle.d_types.specs.Clauses.{Made, and_then}
-use Rattle.d_types.specs.Storage.{Variables}
-use Rattle.replay_core.specs.declared.evaluation.fault.EvalFault.TheVariants as fault
+use Rattle.std.proofs.Common.{◌≡◌, ◌%◌, ℕ, ℤ, List, [], ◌∷◌, ◌++◌, map, Bool, true, false, ◌||◌}
+use Rattle.std.proofs.Common.{Option, None, Some, is_some, length, take, Ok, Err, refl, sym, ap}
+use Rattle.std.proofs.Common.{◌∙◌, subst, append_assoc, take_at}
+use Rattle.aggregations.specs.Table.{contribution}
+use Rattle.replay_core.specs.Vocabulary.{option_or, Aggregation, Contribution, StandsFor}
+use Rattle.replay_core.specs.Vocabulary.{functions_of, KeyPart, Effect, Outcome, Has, Faults, with}
+use Rattle.replay_core.specs.Vocabulary.{Made, and_then, Variables}
 use Rattle.replay_core.specs.Effects.{NotesRun}
 use Rattle.replay_core.specs.Steps.EffectRuns.{Ran, contributions_in, effect_then, exit_in}
 use Rattle.replay_core.specs.Steps.EffectRuns.{run_result, run_with, texts_in}
 use Rattle.replay_core.specs.Steps.Effects.{effects_result, NotesEffect, Performs}
 use Rattle.replay_core.specs.Lanes.{Notes}
 use Rattle.replay_core.specs.Pieces.{PieceSeen}
+use Rattle.d_types.specs.declared.effect.Effect.TheVariants as ef
+use Rattle.replay_core.specs.declared.evaluation.fault.EvalFault.TheVariants as fault
 use Rattle.replay_core.proofs.Noting.{append_nil, notes_nothing, notes_then, or_none}
 
 -- ---- effects and those after them
 
 texts_then : (a b : List Effect) → texts_in (a ++ b) ≡ texts_in a ++ texts_in b
 texts_then [] b = refl
-texts_then (ef.Nothing ∷ a) b = texts_then a b
 texts_then (ef.Says text ∷ a) b = ap (λ l. text ∷ l) (texts_then a b)
-texts_then (ef.Adds index key z ∷ a) b = texts_then a b
-texts_then (ef.Exits status ∷ a) b = texts_then a b
+texts_then (effect ∷ a) b = texts_then a b
 
 contributions_then : (a b : List Effect) → contributions_in (a ++ b) ≡ contributions_in a ++ contributions_in b
 contributions_then [] b = refl
-contributions_then (ef.Nothing ∷ a) b = contributions_then a b
-contributions_then (ef.Says text ∷ a) b = contributions_then a b
 contributions_then (ef.Adds index key z ∷ a) b = ap (λ l. contribution index key z ∷ l) (contributions_then a b)
-contributions_then (ef.Exits status ∷ a) b = contributions_then a b
+contributions_then (effect ∷ a) b = contributions_then a b
 
 exit_then : (a b : List Effect) → exit_in (a ++ b) ≡ option_or (exit_in a) (exit_in b)
 exit_then [] b = refl
-exit_then (ef.Nothing ∷ a) b = exit_then a b
-exit_then (ef.Says text ∷ a) b = exit_then a b
-exit_then (ef.Adds index key z ∷ a) b = exit_then a b
 exit_then (ef.Exits status ∷ a) b = refl
+exit_then (effect ∷ a) b = exit_then a b
 
 abbrev pub made_of : List (List ℕ) → List Contribution → Option ℕ → Variables → Made
 made_of texts contributions exit vars = record { texts = texts; contributions = contributions; exit = exit; variables = vars }
 
 done_then : (a b : List Effect) (vars : Variables) → effects_result (a ++ b) vars ≡ and_then (effects_result a vars) (effects_result b vars)
-done_then a b vars =
-    ap (λ t. made_of t (contributions_in (a ++ b)) (exit_in (a ++ b)) vars) (texts_then a b)
-    ∙ ap (λ c. made_of (texts_in a ++ texts_in b) c (exit_in (a ++ b)) vars) (contributions_then a b)
-    ∙ ap (λ e. made_of (texts_in a ++ texts_in b) (contributions_in a ++ contributions_in b) e vars) (exit_then a b)
+done_then a b vars = let texts = texts_then a b in let contributions = contributions_then a b in let exit = exit_then a b in cc
 
 some_then : (a b : Option ℕ) → (is_some a || is_some b) ≡ is_some (option_or a b)
 some_then None b = refl
@@ -67,10 +55,6 @@ pub record SoFar (number : ℕ) (whole left : Ran) (old now : PieceSeen) (exits 
 pub none_yet : (number : ℕ) (whole : Ran) (p : PieceSeen) → SoFar number whole whole p p false
 none_yet number whole p = record { done = []; is = refl; notes = λ vars. notes_nothing number vars p; exited = refl }
 
-append_one : {A : Type 0} (a : List A) (x : A) (b : List A) → a ++ x ∷ b ≡ (a ++ x ∷ []) ++ b
-append_one [] x b = refl
-append_one (y ∷ a) x b = ap (λ l. y ∷ l) (append_one a x b)
-
 one_more : (number : ℕ) (whole left rest : Ran) (old now next : PieceSeen) (exits exited more : Bool) (effect : Effect)
     → SoFar number whole left old now exits → left ≡ run_with (effect ∷ rest.effects) rest.faulted rest.variables
     → NotesEffect number effect now next → exited ≡ is_some (exit_in (effect ∷ [])) → more ≡ (exits || exited)
@@ -78,7 +62,7 @@ one_more : (number : ℕ) (whole left rest : Ran) (old now next : PieceSeen) (ex
 one_more number whole left rest old now next exits exited more effect so_far is noted told more_is = record {
   done = so_far.done ++ effect ∷ [];
   is = so_far.is ∙ ap (λ (l : Ran). run_with (so_far.done ++ l.effects) l.faulted l.variables) is
-      ∙ ap (λ es. run_with es rest.faulted rest.variables) (append_one so_far.done effect rest.effects);
+      ∙ ap (λ es. run_with es rest.faulted rest.variables) (sym (append_assoc so_far.done (effect ∷ []) rest.effects));
   notes = λ vars. subst (λ m. Notes number m old next) (sym (done_then so_far.done (effect ∷ []) vars))
       (notes_then number (effects_result so_far.done vars) (effects_result (effect ∷ []) vars) old now next (so_far.notes vars) (noted vars));
   exited = more_is ∙ ap (λ b. b || exited) so_far.exited ∙ ap (λ b. is_some (exit_in so_far.done) || b) told
@@ -103,10 +87,6 @@ ends number line whole old now vars exits so_far =
     (record { notes = so_far.notes vars; variables = refl; exited = so_far.exited })
 
 -- ---- how a run ends
-
-take_front : {A : Type 0} (xs ys : List A) → take (length xs) (xs ++ ys) ≡ xs
-take_front [] ys = refl
-take_front (x ∷ xs) ys = ap (λ l. x ∷ l) (take_front xs ys)
 
 -- the piece with a fault's line in place of the run's texts
 abbrev with_line : ℕ → List ℕ → (old now : PieceSeen) → PieceSeen
@@ -144,7 +124,7 @@ faults number line whole left (Has effect after) go old now next end vars exits 
 faults number line whole left (Faults after) go old now next end vars exits so_far is performs texts table taken exit =
     let cut : take (length old.events) next.events ≡ old.events =
     ap (λ (p : PieceSeen). take (length old.events) p.events) performs.1 ∙ ap (take (length old.events)) (so_far.notes vars).texts
-    ∙ take_front old.events (map (λ text. (number, text)) (texts_in so_far.done)) in
+    ∙ take_at old.events (map (λ text. (number, text)) (texts_in so_far.done)) (length old.events) refl in
     let faulted = ends_faulted number line whole left old now vars exits so_far (is ∙ ap (run_with [] true) (sym performs.0)) in
     let noted = subst (λ p. NotesRun number (run_result line whole) old (with_line number line old p) vars exits) (sym performs.1) faulted in
     subst (λ p. NotesRun number (run_result line whole) old p vars exits) (is_with_line number line old next end cut texts table taken exit) noted
@@ -154,7 +134,7 @@ pub predicate_faults : (number : ℕ) (line : List ℕ) (old end : PieceSeen) (v
     → end.events ≡ take (length old.events) old.events ++ (number, line) ∷ [] → end.table ≡ old.table → end.taken ≡ old.taken → end.exit ≡ old.exit
     → NotesRun number (run_result line (run_with [] true vars)) old end vars false
 predicate_faults number line old end vars texts table taken exit =
-    let cut : take (length old.events) old.events ≡ old.events = ap (take (length old.events)) (append_nil old.events) ∙ take_front old.events [] in
+    let cut : take (length old.events) old.events ≡ old.events = ap (take (length old.events)) (append_nil old.events) ∙ take_at old.events [] (length old.events) refl in
     subst (λ p. NotesRun number (run_result line (run_with [] true vars)) old p vars false) (is_with_line number line old old end cut texts table taken exit)
     (ends_faulted number line (run_with [] true vars) (run_with [] true vars) old old vars false (none_yet number (run_with [] true vars) old) refl)
 

@@ -1,17 +1,14 @@
 -- What a clause makes is what its effects make, one after the other.
-use Rattle.std.specs.Prelude.{◌≡◌, ℕ, zero, suc, List, [], ◌∷◌, ◌++◌, Option, None, Some}
-use Rattle.std.specs.Prelude.{if◌then◌else◌}
-use Rattle.std.specs.Option.{option_or}
-use Rattle.std.proofs.Common.{refl, sym, ap, ◌∙◌, append_assoc}
-use Rattle.d_types.specs.declared.effect.Effect.{Effect}
-use Rattle.d_types.specs.declared.effect.Effect.TheVariants as ef
-use Rattle.d_types.specs.Clauses.{Evaluation, Made, and_then, effect_by, effect_result, go_on}
-use Rattle.d_types.specs.Clauses.{nothing_made, run_by, statements_made}
-use Rattle.d_types.specs.Expressions.{Outcome, Has, Faults, at_zero, number_outcome}
-use Rattle.d_types.specs.Storage.{Variables}
-use Rattle.d_types.specs.Typed.{ActionOf}
+use Rattle.std.proofs.Common.{◌≡◌, ℕ, zero, suc, List, [], ◌∷◌, ◌++◌, Option, None, Some}
+use Rattle.std.proofs.Common.{if◌then◌else◌, refl, ap, ◌∙◌, append_assoc}
+use Rattle.d_types.specs.Clauses.{effect_result, go_on, run_by, statements_made}
+use Rattle.d_types.specs.Expressions.{at_zero}
+use Rattle.replay_core.specs.Vocabulary.{option_or, Effect, Evaluation, Made, and_then, effect_by}
+use Rattle.replay_core.specs.Vocabulary.{nothing_made, Outcome, Has, Faults, number_outcome}
+use Rattle.replay_core.specs.Vocabulary.{Variables, ActionOf}
 use Rattle.replay_core.specs.Steps.EffectRuns.{Ran, contributions_in, effect_then, exit_in, ran_by}
 use Rattle.replay_core.specs.Steps.EffectRuns.{run_result, statements_by, texts_in, where_true}
+use Rattle.d_types.specs.declared.effect.Effect.TheVariants as ef
 use Rattle.replay_core.proofs.EffectLemmas.{made_of}
 use Rattle.replay_core.proofs.Noting.{append_nil, or_none}
 use Rattle.replay_core.proofs.RunLemmas.{exit_first}
@@ -27,9 +24,7 @@ made_after line before ran = record {
 
 nothing_after : (before : Made) (texts : List (List ℕ)) (vars : Variables)
     → made_of texts before.contributions before.exit vars ≡ made_of texts (before.contributions ++ []) (option_or before.exit None) vars
-nothing_after before texts vars =
-    ap (λ c. made_of texts c before.exit vars) (append_nil before.contributions)
-    ∙ ap (λ e. made_of texts (before.contributions ++ []) e vars) (or_none before.exit)
+nothing_after before texts vars = let contributions = append_nil before.contributions in let exit = or_none before.exit in cc
 
 -- one more before the others
 joined : (line : List ℕ) (before one : Made) (ran : Ran) →
@@ -37,15 +32,9 @@ joined : (line : List ℕ) (before one : Made) (ran : Ran) →
     ≡ made_of (if ran.faulted then line ∷ [] else before.texts ++ (one.texts ++ texts_in ran.effects)) (before.contributions ++ (one.contributions ++ contributions_in ran.effects))
     (option_or before.exit (option_or one.exit (exit_in ran.effects))) ran.variables
 joined line before one ran =
-    let cs = contributions_in ran.effects in
-    let ts = texts_in ran.effects in
-    let e = exit_in ran.effects in
-    ap (λ t. made_of (if ran.faulted then line ∷ [] else t) ((before.contributions ++ one.contributions) ++ cs) (option_or (option_or before.exit one.exit) e) ran.variables)
-    (append_assoc before.texts one.texts ts)
-    ∙ ap (λ c. made_of (if ran.faulted then line ∷ [] else before.texts ++ (one.texts ++ ts)) c (option_or (option_or before.exit one.exit) e) ran.variables)
-    (append_assoc before.contributions one.contributions cs)
-    ∙ ap (λ x. made_of (if ran.faulted then line ∷ [] else before.texts ++ (one.texts ++ ts)) (before.contributions ++ (one.contributions ++ cs)) x ran.variables)
-    (sym (exit_first before.exit one.exit e))
+    let texts = append_assoc before.texts one.texts (texts_in ran.effects) in
+    let contributions = append_assoc before.contributions one.contributions (contributions_in ran.effects) in
+    let exit = exit_first before.exit one.exit (exit_in ran.effects) in cc
 
 -- a statement, and then those after it
 one_then : (line : List ℕ) (before : Made) (o : Outcome Effect) (go : Made → Made) (ran : Variables → Ran)
@@ -54,12 +43,7 @@ one_then : (line : List ℕ) (before : Made) (o : Outcome Effect) (go : Made →
 one_then line before (Faults vars) go ran rest = nothing_after before (line ∷ []) vars
 one_then line before (Has ef.Nothing vars) go ran rest =
     rest (and_then before (effect_result ef.Nothing vars)) ∙ joined line before (effect_result ef.Nothing vars) (ran vars)
-one_then line before (Has (ef.Says text) vars) go ran rest =
-    rest (and_then before (effect_result (ef.Says text) vars)) ∙ joined line before (effect_result (ef.Says text) vars) (ran vars)
-one_then line before (Has (ef.Exits status) vars) go ran rest =
-    rest (and_then before (effect_result (ef.Exits status) vars)) ∙ joined line before (effect_result (ef.Exits status) vars) (ran vars)
-one_then line before (Has (ef.Adds index key z) vars) go ran rest =
-    rest (and_then before (effect_result (ef.Adds index key z) vars)) ∙ joined line before (effect_result (ef.Adds index key z) vars) (ran vars)
+one_then line before (Has effect vars) go ran rest = rest (and_then before (effect_result effect vars)) ∙ joined line before (effect_result effect vars) (ran vars)
 
 module _ {E Es : Type 0} (by : Evaluation E Es) (line : List ℕ) where
   statements_are : (all : List (ActionOf E Es)) (before : Made) → statements_made by line all before ≡ made_after line before (statements_by by all before.variables)

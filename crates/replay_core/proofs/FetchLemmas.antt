@@ -1,18 +1,15 @@
 -- Firings whose rows and lists of clauses are read before the first of them runs.
-use Rattle.std.specs.Prelude.{◌≡◌, ◌≤◌, ◌<◌, ◌-◌, ℕ, zero, suc, List, [], ◌∷◌, ◌++◌, Some}
-use Rattle.std.specs.Prelude.{Option, filter, length, map, option_map, slice_get, take, drop}
-use Rattle.std.proofs.Common.{arith, get_or, ap, ◌∙◌}
-use Rattle.std.specs.Borrow.{Bor}
+use Rattle.std.proofs.Common.{◌≡◌, ◌≤◌, ◌<◌, ◌-◌, ℕ, zero, suc, List, [], ◌∷◌, ◌++◌, Some, Option}
+use Rattle.std.proofs.Common.{filter, length, map, option_map, slice_get, take, drop, arith, get_or}
+use Rattle.std.proofs.Common.{ap, ◌∙◌, Bor}
 use Rattle.std.proofs.lemmas.List.Concat.{flat_map-append}
 use Rattle.std.proofs.lemmas.List.Elements.{filter-append}
 use Rattle.std.proofs.lemmas.Option.{slice_get-get_or, slice_get-map}
-use Rattle.firings.specs.declared.firing.Firing.{Firing}
-use Rattle.firings.specs.Stored.{row_before}
+use Rattle.replay_core.specs.Vocabulary.{Firing, row_before, with_ends}
 use Rattle.replay_core.specs.declared.workers.span.Span.{Span}
 use Rattle.replay_core.specs.Selecting.{lent}
 use Rattle.replay_core.specs.Working.{is_in}
 use Rattle.replay_core.specs.Steps.Working.{firings_at}
-use Rattle.replay_core.specs.Vocabulary.{with_ends}
 use Rattle.replay_core.proofs.TraceRuns.{at_row, few_kept}
 use Rattle.replay_core.proofs.WorkSteps.{few_firings}
 

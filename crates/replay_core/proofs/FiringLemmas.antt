@@ -1,24 +1,16 @@
 -- What all_made make is what a firing means.
-use Rattle.std.specs.Prelude.{◌≡◌, ℕ, suc, ◌+◌, ◌<◌, ◌≤◌, List, [], ◌∷◌, ◌++◌, All, filter}
-use Rattle.std.specs.Prelude.{map, length, slice_get, sum_by, Option, None, Some, option_map}
-use Rattle.std.specs.Prelude.{is_some}
-use Rattle.std.specs.Option.{option_or}
-use Rattle.std.proofs.Common.{refl, sym, ap, ◌∙◌, subst, arith, add-one, add-zero}
-use Rattle.std.proofs.Common.{length-append}
+use Rattle.std.proofs.Common.{◌≡◌, ℕ, suc, ◌+◌, ◌<◌, ◌≤◌, List, [], ◌∷◌, ◌++◌, All, filter, map}
+use Rattle.std.proofs.Common.{length, slice_get, sum_by, Option, None, Some, option_map, is_some}
+use Rattle.std.proofs.Common.{refl, sym, ap, ◌∙◌, subst, arith, add-one, add-zero, length-append}
 use Rattle.std.proofs.lemmas.List.{length-map}
 use Rattle.std.proofs.lemmas.List.Sums.{sum_by-cons}
 use Rattle.std.proofs.lemmas.List.Elements.{All-append, All-map}
-use Rattle.aggregations.specs.Table.{StandsFor, functions_of}
-use Rattle.d_parser.specs.declared.tree.Description.{Description}
-use Rattle.d_types.specs.Clauses.{Made, run_of}
-use Rattle.d_types.specs.Clauses.{and_then}
-use Rattle.d_types.specs.Storage.{Variables}
-use Rattle.d_types.specs.Typed.{ClauseMeant, ScriptMeant}
-use Rattle.firings.specs.declared.firing.Firing.{Firing}
 use Rattle.firings.specs.declared.unit.Probe.{Probe}
+use Rattle.replay_core.specs.Vocabulary.{option_or, StandsFor, functions_of, Description, Made}
+use Rattle.replay_core.specs.Vocabulary.{run_of, and_then, Variables, ClauseMeant, ScriptMeant}
+use Rattle.replay_core.specs.Vocabulary.{Firing}
 use Rattle.replay_core.specs.Lanes.{GoesOnBy, Notes}
-use Rattle.replay_core.specs.Meaning.{Threads, clauses_for, history, in_turn}
-use Rattle.replay_core.specs.Meaning.{firing_result}
+use Rattle.replay_core.specs.Meaning.{Threads, clauses_for, history, in_turn, firing_result}
 use Rattle.replay_core.specs.Patterns.{probe_of, selects}
 use Rattle.replay_core.specs.Pieces.{PieceSeen}
 use Rattle.replay_core.specs.Indices.{indices_for}

@@ -1,25 +1,20 @@
 -- Trees are run as what they stand for.
-use Rattle.std.specs.Prelude.{◌≡◌, ℕ, List, [], ◌∷◌, map, max, Option, None, Some}
-use Rattle.std.proofs.Common.{refl, sym, ap, ◌∙◌}
-use Rattle.d_types.specs.Clauses.{by_trees, effect_by, run_by}
-use Rattle.d_types.specs.Storage.{Variables}
-use Rattle.d_types.specs.Typed.{Print, action_of, actions_of, typed_argument, typeds_of, types_of}
-use Rattle.d_types.specs.declared.typed.TypedExpr.{TypedExpr}
-use Rattle.d_types.specs.declared.typed.TypedStmt.{TypedStmt}
-use Rattle.d_types.specs.declared.typed.TypedStmt.TheVariants as s
-use Rattle.firings.specs.declared.firing.Firing.{Firing}
+use Rattle.std.proofs.Common.{◌≡◌, ℕ, List, [], ◌∷◌, map, max, Option, None, Some, refl, sym, ap}
+use Rattle.std.proofs.Common.{◌∙◌}
+use Rattle.d_types.specs.Clauses.{by_trees, run_by}
+use Rattle.d_types.specs.Typed.{Print, action_of, actions_of, typed_argument, types_of}
+use Rattle.replay_core.specs.Vocabulary.{effect_by, Variables, typeds_of, TypedExpr, TypedStmt}
+use Rattle.replay_core.specs.Vocabulary.{Firing}
 use Rattle.replay_core.specs.Bounds.{index_in, indices_among}
 use Rattle.replay_core.specs.Forms.{by_expressions, expression_type, statement_form}
 use Rattle.replay_core.specs.Steps.EffectRuns.{effect_then, ran_by, run_result, statements_by}
 use Rattle.replay_core.specs.Steps.EffectRuns.{where_predicate}
+use Rattle.d_types.specs.declared.typed.TypedStmt.TheVariants as s
 use Rattle.replay_core.proofs.EffectRuns.{run_by_is}
 
 index_same : (x : TypedStmt) → index_in (statement_form x) ≡ index_in (action_of x)
 index_same (s.Evaluate e) = refl
-index_same (s.Trace e) = refl
-index_same (s.Print format arguments) = refl
-index_same (s.Exit e) = refl
-index_same (s.Aggregate index keys argument) = refl
+index_same x = refl
 
 pub indices_same : (all : List TypedStmt) → indices_among (map statement_form all) ≡ indices_among (actions_of all)
 indices_same [] = refl
@@ -33,13 +28,10 @@ types_same (e ∷ rest) = ap (λ l. expression_type e ∷ l) (types_same rest)
 
 module _ (f : Firing) where
   effect_same : (x : TypedStmt) (vars : Variables) → effect_by (by_expressions f) (statement_form x) vars ≡ effect_by (by_trees f) (action_of x) vars
-  effect_same (s.Evaluate e) vars = refl
-  effect_same (s.Trace e) vars = refl
   effect_same (s.Print format arguments) vars =
       ap (λ types. effect_by (by_expressions f) (Print format.items types arguments.items) vars) (types_same arguments.items)
-  effect_same (s.Exit e) vars = refl
   effect_same (s.Aggregate index keys None) vars = refl
-  effect_same (s.Aggregate index keys (Some e)) vars = refl
+  effect_same x vars = refl
 
   statements_same : (all : List TypedStmt) (vars : Variables)
       → statements_by (by_expressions f) (map statement_form all) vars ≡ statements_by (by_trees f) (actions_of all) vars

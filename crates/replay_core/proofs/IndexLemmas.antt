@@ -1,7 +1,6 @@
 -- The aggregations that a clause's statements name.
-use Rattle.std.specs.Prelude.{ℕ, zero, suc, ◌<◌, ◌≤◌, List, [], ◌∷◌, length, map}
-use Rattle.std.proofs.Common.{arith, get_or}
-use Rattle.d_types.specs.Typed.{ActionOf}
+use Rattle.std.proofs.Common.{ℕ, zero, suc, ◌<◌, ◌≤◌, List, [], ◌∷◌, length, map, arith, get_or}
+use Rattle.replay_core.specs.Vocabulary.{ActionOf}
 use Rattle.replay_core.specs.Bounds.{index_in, indices_among}
 
 pub index_at : {S E Es : Type 0} (form : S → ActionOf E Es) (n : ℕ) (all : List S) (i : ℕ) (d : S) → i < length all

@@ -1,27 +1,21 @@
 -- Keys of words, a word further.
-use Rattle.std.specs.Prelude.{◌≡◌, ◌++◌, ℕ, List, [], ◌∷◌, Err}
-use Rattle.std.specs.List.{All}
-use Rattle.std.proofs.Common.{refl, sym, ap, ◌∙◌}
-use Rattle.std.proofs.lemmas.List.{append_assoc}
+use Rattle.std.proofs.Common.{◌≡◌, ◌++◌, ℕ, List, [], ◌∷◌, Err, All, refl, sym, ap, ◌∙◌}
+use Rattle.std.proofs.Common.{append_assoc}
 use Rattle.std.proofs.lemmas.List.Elements.{All-push, All-weaker}
-use Rattle.d_values.specs.Keys.{part_of}
-use Rattle.d_values.specs.declared.key.KeyPart.{KeyPart}
-use Rattle.d_values.specs.declared.value.Value.{Value}
-use Rattle.firings.specs.declared.firing.Firing.{Firing}
 use Rattle.numbered.specs.Texts.{Keeps}
 use Rattle.numbered.specs.Words.{key_in}
 use Rattle.numbered.specs.declared.word.Word.{Word}
-use Rattle.d_types.specs.Expressions.{Outcome, Has, Faults, with}
-use Rattle.d_types.specs.Storage.{Variables}
 use Rattle.dif_machine.specs.CellLaws.{word_within}
 use Rattle.dif_machine.specs.Machine.{IsWithin}
-use Rattle.dif_machine.specs.Machine as machine
 use Rattle.dif_machine.proofs.Holding.{key_kept}
 use Rattle.dif_codegen.specs.Meaning.{key_of_objects, value_of}
 use Rattle.dif_codegen.specs.declared.program.TypedObject.{TypedObject}
+use Rattle.replay_core.specs.Vocabulary.{part_of, KeyPart, Value, Firing, Outcome, Has, Faults}
+use Rattle.replay_core.specs.Vocabulary.{with, Variables}
 use Rattle.replay_core.specs.declared.evaluation.fault.EvalFault.{EvalFault}
 use Rattle.replay_core.specs.Evaluation.{Returns}
 use Rattle.replay_core.specs.Steps.Evaluation.{IsMadeKey}
+use Rattle.dif_machine.specs.Machine as machine
 
 module _ (old new : List (List ℕ)) (kept : Keeps old new) where
   pub within_more : (words : List Word) (w : Word) → All (IsWithin old) words → IsWithin new w → All (IsWithin new) (words ++ w ∷ [])

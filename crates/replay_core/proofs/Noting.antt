@@ -1,11 +1,9 @@
 -- What is noted, one after the other.
-use Rattle.std.specs.Prelude.{◌≡◌, ℕ, List, [], ◌++◌, map, Option, None, Some, option_map}
-use Rattle.std.specs.Option.{option_or}
-use Rattle.std.proofs.Common.{refl, sym, ap, ◌∙◌, subst, append-nil, append_assoc}
+use Rattle.std.proofs.Common.{◌≡◌, ℕ, List, [], ◌++◌, map, Option, None, Some, option_map, refl}
+use Rattle.std.proofs.Common.{arith, sym, ap, ◌∙◌, subst, append-nil, append_assoc}
 use Rattle.std.proofs.lemmas.List.{map-append}
-use Rattle.aggregations.specs.Table.{StandsFor}
-use Rattle.d_types.specs.Clauses.{Made, nothing_made, and_then}
-use Rattle.d_types.specs.Storage.{Variables}
+use Rattle.replay_core.specs.Vocabulary.{option_or, StandsFor, Made, nothing_made, and_then}
+use Rattle.replay_core.specs.Vocabulary.{Variables}
 use Rattle.replay_core.specs.Pieces.{PieceSeen}
 use Rattle.replay_core.specs.Lanes.{Notes}
 
@@ -29,9 +27,7 @@ notes_nothing number vars p = record {
 exits_then : (number : ℕ) (old : Option (ℕ × ℕ)) (a b : Option ℕ) →
     option_or (option_or old (option_map (λ status. (number, status)) a)) (option_map (λ status. (number, status)) b)
     ≡ option_or old (option_map (λ status. (number, status)) (option_or a b))
-exits_then number None None b = refl
-exits_then number None (Some s) b = refl
-exits_then number (Some e) a b = refl
+exits_then number old a b = grind arith
 
 pub notes_then : (number : ℕ) (a b : Made) (p q r : PieceSeen) → Notes number a p q → Notes number b q r → Notes number (and_then a b) p r
 notes_then number a b p q r first second = record {

@@ -1,8 +1,7 @@
 -- What a piece has more after several calls.
-use Rattle.std.specs.Prelude.{ℕ, ◌+◌, ◌≤◌}
-use Rattle.std.proofs.Common.{refl, arith, ◌∙◌}
+use Rattle.std.proofs.Common.{ℕ, ◌+◌, ◌≤◌, refl, arith, ◌∙◌}
 use Rattle.replay_core.specs.Effects.{HasMore}
-use Rattle.replay_core.specs.declared.{lanes.piece.Piece.Piece}
+use Rattle.replay_core.specs.declared.lanes.piece.Piece.{Piece}
 
 pub no_more : (n : ℕ) (p : Piece) → HasMore n p p
 no_more n p = record { held = omega arith; functions = refl; taken = refl }

@@ -1,14 +1,14 @@
 -- Steps of placing pieces.
 use Rattle.std.proofs.Common.{◌≡◌, ℕ, zero, suc, ◌<◌, ◌≤◌, ◌==◌, Bool, true, false, cond, List, []}
 use Rattle.std.proofs.Common.{◌∷◌, length, get_or, ◌++◌, set, Option, None, Some, is_some, refl}
-use Rattle.std.proofs.Common.{sym, ap, ◌∙◌, ⊎_elim, eq-eqb, ne_eqb}
-use Rattle.std.proofs.lemmas.Bool.{cases_eq, lt-ltb, le-ltb}
+use Rattle.std.proofs.Common.{sym, ap, ◌∙◌, ⊎_elim, eq-eqb, ne_eqb, lt-ltb, le-ltb}
+use Rattle.std.proofs.Common.{get_or-set_other}
+use Rattle.std.proofs.lemmas.Bool.{cases_eq}
 use Rattle.std.proofs.lemmas.Grind.{get_or-set_at}
-use Rattle.std.proofs.lemmas.List.{get_or-set_other}
 use Rattle.replay_core.specs.declared.lanes.piece.Piece.{Piece}
 use Rattle.replay_core.specs.declared.collect_fault.CollectFault.{CollectFault}
 use Rattle.replay_core.specs.declared.collect_fault.CollectFault.TheVariants.{Twice, Stranger}
-use Rattle.replay_core.specs.declared.collect_fault.CollectFault.TheVariants.{Missing, Memory}
+use Rattle.replay_core.specs.declared.collect_fault.CollectFault.TheVariants.{Memory}
 use Rattle.replay_core.specs.Steps.PiecePlaces.{IsFault, is_filled}
 use Rattle.replay_core.specs.Collecting.{first_bad, first_bad_after}
 
@@ -48,7 +48,5 @@ none_pushed (x ∷ xs) none (suc k) = none_pushed xs (λ j. none (suc j)) k
 
 -- a fault that isn't of memory is the one that there is
 pub fault_is : (e : CollectFault) (bad : Option CollectFault) → bad ≡ Some e → IsFault e bad
-fault_is (Twice g) bad is = is
-fault_is (Stranger g) bad is = is
-fault_is (Missing g) bad is = is
 fault_is Memory bad is = tt
+fault_is e bad is = is

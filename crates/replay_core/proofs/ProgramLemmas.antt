@@ -1,23 +1,19 @@
 -- What each program of a typed script keeps is what a lane asks for.
-use Rattle.std.specs.Prelude.{◌≡◌, ℕ, ◌+◌, ◌≤◌, List, [], ◌∷◌, All, Option, None, Some, length, map}
-use Rattle.std.specs.Prelude.{max, sum_by}
-use Rattle.std.specs.List.{AllZip}
-use Rattle.std.proofs.Common.{refl, sym, ap, ◌∙◌, subst, arith, get_or}
+use Rattle.std.proofs.Common.{◌≡◌, ℕ, ◌+◌, ◌≤◌, List, [], ◌∷◌, All, Option, None, Some, length, map}
+use Rattle.std.proofs.Common.{max, sum_by, refl, sym, ap, ◌∙◌, subst, arith, get_or}
 use Rattle.std.proofs.lemmas.List.{length-map}
 use Rattle.std.proofs.lemmas.List.Sums.{sum_by-cons}
 use Rattle.d_parser.specs.Sizes.{in_all}
-use Rattle.d_types.specs.Held.{Slots, slots_of}
 use Rattle.d_types.specs.Scripts.{IsMeant}
-use Rattle.d_types.specs.Sizes.{description_count, statement_count}
-use Rattle.d_types.specs.Typed.{ActionOf, Aggregate, ClauseMeant, Evaluate, Exit, Print}
-use Rattle.d_types.specs.Typed.{ScriptMeant, Trace}
+use Rattle.d_types.specs.Sizes.{description_count}
+use Rattle.d_types.specs.Typed.{Evaluate}
 use Rattle.d_types.proofs.Sizes.{typed_script_is_small}
-use Rattle.dif_codegen.specs.Meaning.{IsSameClause}
 use Rattle.dif_codegen.proofs.Exiting.{aggregation_of, same_aggregations}
-use Rattle.dif_codegen.specs.Programs.{action_code}
 use Rattle.dif_codegen.specs.declared.program.CompiledClause.{CompiledClause}
+use Rattle.replay_core.specs.Vocabulary.{AllZip, Slots, slots_of, statement_count, ActionOf}
+use Rattle.replay_core.specs.Vocabulary.{ClauseMeant, ScriptMeant, IsSameClause, action_code}
 use Rattle.replay_core.specs.Bounds.{index_in, indices_among, indices_in}
-use Rattle.replay_core.proofs.TreeLemmas.{one_of_all, script_named}
+use Rattle.replay_core.proofs.TreeLemmas.{clauses_few, script_named}
 use Rattle.replay_core.proofs.Turning.{zip_with_at}
 
 -- above the index of the aggregation, if there is one
@@ -31,10 +27,7 @@ above_all (index ∷ indices) = max (above index) (above_all indices)
 
 index_above : {E Es : Type 0} (a : ActionOf E Es) → index_in a ≡ above (aggregation_of a)
 index_above (Evaluate x) = refl
-index_above (Trace t x) = refl
-index_above (Print format types arguments) = refl
-index_above (Exit x) = refl
-index_above (Aggregate index keys argument) = refl
+index_above a = refl
 
 indices_above : {E Es : Type 0} (all : List (ActionOf E Es)) → indices_among all ≡ above_all (map (λ a. aggregation_of a) all)
 indices_above [] = refl
@@ -67,15 +60,9 @@ module _ (m : ScriptMeant) (typed : ∥ IsMeant m ∥₁) (cs : List CompiledCla
       let at = zip_with_at (IsSameClause (slots_of m)) (λ c. indices_in c ≤ length m.aggregations) cs m.clauses k d zip (script_named m typed) lt in
       subst (λ n. n ≤ length m.aggregations) (sym (same_indices (slots_of m) (get_or cs k d) at.0 at.2)) at.3
 
-  few_here : All (λ c. statement_count c ≤ 65536) m.clauses
-  few_here k d lt =
-      let small = (typed_script_is_small m typed).few_statements in
-      let one = one_of_all statement_count m.clauses k d lt in
-      omega (arith, small, one)
-
   pub program_few : All (λ c. length c.actions.items ≤ 65536) cs
   program_few k d lt =
-      let at = zip_with_at (IsSameClause (slots_of m)) (λ c. statement_count c ≤ 65536) cs m.clauses k d zip few_here lt in
+      let at = zip_with_at (IsSameClause (slots_of m)) (λ c. statement_count c ≤ 65536) cs m.clauses k d zip (clauses_few m typed) lt in
       subst (λ n. n ≤ 65536) (sym (same_statements (slots_of m) (get_or cs k d) at.0 at.2)) at.3
 
   pub program_few_probes : sum_by (λ c. length c.descriptions.items) cs ≤ 65536

@@ -1,8 +1,11 @@
 -- States that stay at their firing and at their thread.
-use Rattle.std.specs.Prelude.{◌≡◌, Contains}
-use Rattle.std.proofs.Common.{ap, refl, subst, sym, ◌∙◌}
-use Rattle.replay_core.specs.declared.{lanes.piece.Piece.Piece, lanes.state.State.State, lanes.store.Store.Ghosts}
-use Rattle.replay_core.specs.{Effects.HasTaken, Evaluation.Stays, Threads.StoreSeen}
+use Rattle.std.proofs.Common.{◌≡◌, Contains, ap, refl, subst, sym, ◌∙◌}
+use Rattle.replay_core.specs.declared.lanes.piece.Piece.{Piece}
+use Rattle.replay_core.specs.declared.lanes.state.State.{State}
+use Rattle.replay_core.specs.declared.lanes.store.Store.{Ghosts}
+use Rattle.replay_core.specs.Effects.{HasTaken}
+use Rattle.replay_core.specs.Evaluation.{Stays}
+use Rattle.replay_core.specs.Threads.{StoreSeen}
 
 module _ {S : Type 0} {G : Ghosts S} (seen : S → StoreSeen) where
   pub stays_refl : (s : State S G) → Stays seen s s

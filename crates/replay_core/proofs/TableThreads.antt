@@ -1,12 +1,10 @@
 -- Threads in tables of values.
-use Rattle.std.specs.Prelude.{◌≡◌, ℤ, List, [], Bool, true, false, None, Some, if◌then◌else◌}
-use Rattle.std.specs.Map.{lookup}
-use Rattle.std.specs.Ordering.{int_eq}
-use Rattle.std.proofs.Common.{refl, sym, ap, ◌∙◌}
+use Rattle.std.proofs.Common.{◌≡◌, ℤ, List, [], Bool, true, false, None, Some, if◌then◌else◌}
+use Rattle.std.proofs.Common.{int_eq, refl, sym, ap, ◌∙◌}
 use Rattle.std.proofs.lemmas.Bool.Decides.{Decides-int_eq}
 use Rattle.std.proofs.lemmas.Cmp.{int_eq_equiv}
-use Rattle.d_values.specs.Stores.{Locals, Own, own_of}
-use Rattle.d_types.specs.Storage.{variables}
+use Rattle.d_values.specs.Stores.{Locals, Own}
+use Rattle.replay_core.specs.Vocabulary.{lookup, own_of, variables}
 use Rattle.replay_core.specs.Meaning.{at_start, blank_threads}
 use Rattle.replay_core.specs.Threads.{StoreSeen, own_in, threads_of}
 

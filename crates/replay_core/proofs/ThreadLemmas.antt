@@ -1,19 +1,12 @@
 -- The variables of threads, before and after a firing.
-use Rattle.std.specs.Prelude.{◌≡◌, ℕ, suc, ℤ, List, [], ◌∷◌, All, filter, map, true}
-use Rattle.std.specs.Prelude.{false, ◌==◌, if◌then◌else◌, length}
-use Rattle.std.specs.Ordering.{int_eq}
-use Rattle.std.proofs.Common.{refl, arith, sym, ap, ◌∙◌, subst}
+use Rattle.std.proofs.Common.{◌≡◌, ℕ, suc, ℤ, List, [], ◌∷◌, All, filter, map, true, false, ◌==◌}
+use Rattle.std.proofs.Common.{if◌then◌else◌, length, int_eq, refl, arith, sym, ap, ◌∙◌, subst}
 use Rattle.std.proofs.lemmas.Bool.Decides.{Decides-eqb, Decides-int_eq}
 use Rattle.std.proofs.lemmas.List.Elements.{All-append, All-map}
-use Rattle.d_values.specs.declared.key.KeyPart.{KeyPart}
-use Rattle.d_values.specs.declared.value.Value.{Value}
-use Rattle.d_values.specs.declared.variable.Var.{Var}
-use Rattle.d_types.specs.Clauses.{nothing_made, run_of}
-use Rattle.d_types.specs.Held.{AreTyped, AreTypedOwn, HasTypedBuiltIns, Slots, slots_of}
-use Rattle.d_types.specs.Storage.{Variables}
-use Rattle.d_types.specs.Typed.{ClauseMeant, ScriptMeant}
 use Rattle.d_types.proofs.FiringValues.{locals_unassigned}
-use Rattle.firings.specs.declared.firing.Firing.{Firing}
+use Rattle.replay_core.specs.Vocabulary.{KeyPart, Value, Var, nothing_made, run_of, AreTyped}
+use Rattle.replay_core.specs.Vocabulary.{AreTypedOwn, HasTypedBuiltIns, Slots, slots_of, Variables}
+use Rattle.replay_core.specs.Vocabulary.{ClauseMeant, ScriptMeant, Firing}
 use Rattle.replay_core.specs.Meaning.{Threads, at_start, clauses_for, in_turn, firing_result}
 use Rattle.replay_core.specs.Meaning.{threads_after}
 use Rattle.replay_core.specs.Patterns.{probe_of, selects}

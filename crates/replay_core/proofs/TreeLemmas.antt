@@ -1,36 +1,28 @@
 -- What each typed script keeps is what a lane asks for.
-use Rattle.std.specs.Prelude.{◌≡◌, ℕ, zero, suc, ◌+◌, ◌<◌, ◌≤◌, List, [], ◌∷◌, All, Option, length}
-use Rattle.std.specs.Prelude.{map, sum_by}
-use Rattle.std.specs.List.{AllZip}
-use Rattle.std.proofs.Common.{refl, ap, ◌∙◌, subst, arith, get_or}
-use Rattle.std.proofs.Math.ListN as math
+use Rattle.std.proofs.Common.{◌≡◌, ℕ, zero, suc, ◌+◌, ◌<◌, ◌≤◌, List, [], ◌∷◌, All, Option, length}
+use Rattle.std.proofs.Common.{map, sum_by, refl, ap, ◌∙◌, arith, get_or}
 use Rattle.std.proofs.lemmas.List.{length-map}
 use Rattle.std.proofs.lemmas.List.Sums.{sum_by-cons}
 use Rattle.d_parser.specs.Sizes.{in_all}
-use Rattle.d_values.specs.declared.int_type.DType.{DType}
 use Rattle.d_types.specs.declared.typed.TypedAggregation.{TypedAggregation}
 use Rattle.d_types.specs.declared.typed.TypedClause.{TypedClause}
 use Rattle.d_types.specs.Proper.{IsProperAction}
 use Rattle.d_types.specs.Scripts.{IsMeant}
-use Rattle.d_types.specs.Sizes.{description_count, statement_count}
-use Rattle.d_types.specs.Typed.{Action, Aggregate, Aggs, ClauseMeant, Evaluate, Exit, Print}
-use Rattle.d_types.specs.Typed.{ScriptMeant, Trace, agg_of, meant_of, script_meant}
-use Rattle.d_types.specs.Held.{IsConsistent, Slots, slots_of}
-use Rattle.d_types.specs.Wholes.{ClauseIs}
+use Rattle.d_types.specs.Sizes.{description_count}
+use Rattle.d_types.specs.Typed.{Action, Aggregate, Aggs, agg_of, script_meant}
 use Rattle.d_types.proofs.ConsistentScripts.{script_is_consistent}
 use Rattle.d_types.proofs.HoldingRuns.{run_kept}
 use Rattle.d_types.proofs.Proper.{script_is_proper}
 use Rattle.d_types.proofs.Sizes.{typed_script_is_small}
+use Rattle.replay_core.specs.Vocabulary.{AllZip, DType, statement_count, ScriptMeant, meant_of}
+use Rattle.replay_core.specs.Vocabulary.{slots_of, functions_in}
 use Rattle.replay_core.specs.Bounds.{index_in, indices_among, indices_in}
 use Rattle.replay_core.specs.Scripts.{Keeps}
-use Rattle.d_types.specs.Typed.{functions_in}
+use Rattle.replay_core.proofs.GroupSums.{all_mapped}
 
 index_below : (aggs : Aggs) (a : Action) → IsProperAction aggs a → index_in a ≤ length aggs
-index_below aggs (Evaluate x) is = omega arith
-index_below aggs (Trace t x) is = omega arith
-index_below aggs (Print format types arguments) is = omega arith
-index_below aggs (Exit x) is = omega arith
 index_below aggs (Aggregate index keys argument) is = omega (arith, is.0)
+index_below aggs a is = omega arith
 
 indices_below : (aggs : Aggs) (all : List Action) → All (IsProperAction aggs) all → indices_among all ≤ length aggs
 indices_below aggs [] are = omega arith
@@ -52,25 +44,22 @@ total : (cs : List TypedClause) → sum_by (λ c. length c.descriptions.items) c
 total [] = refl
 total (c ∷ cs) = sum_by-cons (λ (c : TypedClause). length c.descriptions.items) c cs ∙ ap (λ n. length c.descriptions.items + n) (total cs)
 
+pub clauses_few : (m : ScriptMeant) → ∥ IsMeant m ∥₁ → All (λ c. statement_count c ≤ 65536) m.clauses
+clauses_few m typed k d lt =
+    let small = (typed_script_is_small m typed).few_statements in
+    let one = one_of_all statement_count m.clauses k d lt in
+    omega (arith, small, one)
+
 module _ (clauses : List TypedClause) (aggs : List TypedAggregation) (slots : List (Option DType)) (typed : ∥ IsMeant (script_meant clauses aggs slots) ∥₁) where
   pub all_named : All (λ c. indices_in (meant_of c) ≤ length aggs) clauses
   all_named k d lt =
       let m = script_meant clauses aggs slots in
-      let many = length-map clauses meant_of in
-      let here = math.get_or-map meant_of clauses k d in
-      let proper = script_is_proper m typed k (meant_of d) (omega arith) in
-      let below = indices_below m.aggregations _ proper.statements in
+      let below = all_mapped (λ c. indices_in c ≤ length m.aggregations) meant_of clauses (script_named m typed) k d lt in
       let few = length-map aggs agg_of in
-      subst (λ c. indices_in c ≤ length aggs) here (omega (arith, below, few))
+      omega (arith, below, few)
 
   pub all_few : All (λ c. statement_count (meant_of c) ≤ 65536) clauses
-  all_few k d lt =
-      let m = script_meant clauses aggs slots in
-      let many = length-map clauses meant_of in
-      let small = (typed_script_is_small m typed).few_statements in
-      let one = one_of_all statement_count m.clauses k (meant_of d) (omega arith) in
-      let here = math.get_or-map meant_of clauses k d in
-      subst (λ c. statement_count c ≤ 65536) here (omega (arith, small, one))
+  all_few = all_mapped (λ c. statement_count c ≤ 65536) meant_of clauses (clauses_few (script_meant clauses aggs slots) typed)
 
   pub few_probes : sum_by (λ c. length c.descriptions.items) clauses ≤ 65536
   few_probes =
@@ -88,8 +77,5 @@ functions_same clauses (a ∷ aggs) slots = ap (λ l. a.function ∷ l) (functio
 
 -- ---- types
 
-clauses_keep : (slots : Slots) (cs : List ClauseMeant) → All (ClauseIs (IsConsistent slots)) cs → All (Keeps slots) cs
-clauses_keep slots cs are k d lt f index vars fit typed = run_kept slots f fit index (get_or cs k d) vars (are k d lt) typed
-
 pub script_keeps : (m : ScriptMeant) → ∥ IsMeant m ∥₁ → All (Keeps (slots_of m)) m.clauses
-script_keeps m meant = clauses_keep (slots_of m) m.clauses (script_is_consistent m meant)
+script_keeps m meant k d lt f index vars fit typed = run_kept (slots_of m) f fit index (get_or m.clauses k d) vars (script_is_consistent m meant k d lt) typed

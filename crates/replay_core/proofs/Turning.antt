@@ -1,16 +1,10 @@
 -- The clauses that are left, and those that ran.
-use Rattle.std.specs.Prelude.{◌≡◌, ℕ, zero, suc, ◌<◌, List, [], ◌∷◌, All, slice_get, Bool, true}
-use Rattle.std.specs.Prelude.{false, ◌+◌, ◌||◌, Option, None, Some, is_some, length}
-use Rattle.std.specs.Option.{option_or}
-use Rattle.std.specs.List.{AllZip}
-use Rattle.std.proofs.Common.{refl, sym, ap, ◌∙◌, subst, arith, get_or}
+use Rattle.std.proofs.Common.{◌≡◌, ℕ, zero, suc, ◌<◌, List, [], ◌∷◌, All, slice_get, Bool, true}
+use Rattle.std.proofs.Common.{false, ◌+◌, ◌||◌, Option, None, Some, is_some, length, refl, sym, ap}
+use Rattle.std.proofs.Common.{◌∙◌, subst, arith, get_or}
 use Rattle.std.proofs.lemmas.Option.{get_or_from_slice_get, slice_get_within}
-use Rattle.d_types.specs.Clauses.{Made}
-use Rattle.d_types.specs.Clauses.{and_then, run_of}
-use Rattle.d_types.specs.Held.{AreTyped, HasTypedBuiltIns, Slots}
-use Rattle.d_types.specs.Storage.{Variables}
-use Rattle.d_types.specs.Typed.{ClauseMeant}
-use Rattle.firings.specs.declared.firing.Firing.{Firing}
+use Rattle.replay_core.specs.Vocabulary.{option_or, AllZip, Made, and_then, run_of, AreTyped}
+use Rattle.replay_core.specs.Vocabulary.{HasTypedBuiltIns, Slots, Variables, ClauseMeant, Firing}
 use Rattle.replay_core.specs.Effects.{NotesRun}
 use Rattle.replay_core.specs.Lanes.{Notes}
 use Rattle.replay_core.specs.Pieces.{PieceSeen}

@@ -1,9 +1,9 @@
 -- How many parts an expression has: what evaluation goes down.
 use Rattle.std.proofs.Common.{◌≤◌, ◌<◌, ◌+◌, ℕ, zero, suc, List, [], ◌∷◌, length, get_or, arith}
-use Rattle.d_types.specs.declared.typed.TypedExpr.{TypedExpr}
-use Rattle.d_types.specs.Typed.{Typed, Constant, Text, Fixed, Read, Unary, Operate, Compare}
-use Rattle.d_types.specs.Typed.{CompareText, Logic, Choice, Convert, Assign, Update, Count, Strlen}
-use Rattle.d_types.specs.Typed.{Strjoin, Typeds, end, more, typed_of, typeds_of}
+use Rattle.d_types.specs.Typed.{Constant, Text, Fixed, Read, Unary, Operate, Compare, CompareText}
+use Rattle.d_types.specs.Typed.{Logic, Choice, Convert, Assign, Update, Count, Strlen, Strjoin, end}
+use Rattle.d_types.specs.Typed.{more}
+use Rattle.replay_core.specs.Vocabulary.{TypedExpr, Typed, Typeds, typed_of, typeds_of}
 
 abbrev mutual
   pub weight : Typed → ℕ

@@ -1,37 +1,33 @@
 -- Threads in a table of words.
-use Rattle.std.specs.Prelude.{◌≡◌, ◌==◌, ℕ, ℤ, List, [], ◌∷◌, true, false, Some, if◌then◌else◌, slice_get}
-use Rattle.std.specs.Prelude.{Result, Ok, Err, IfOk, map}
-use Rattle.std.specs.Int.{cast_signed, w64}
-use Rattle.std.specs.Ordering.{int_eq}
-use Rattle.std.proofs.Common.{refl, sym, ap, ◌∙◌, subst, arith, true≢false}
+use Rattle.std.proofs.Common.{◌≡◌, ◌==◌, ℕ, ℤ, List, [], ◌∷◌, true, false, Some, if◌then◌else◌}
+use Rattle.std.proofs.Common.{slice_get, Result, Ok, Err, IfOk, map, w64, int_eq, refl, sym, ap}
+use Rattle.std.proofs.Common.{◌∙◌, subst, arith, SFits}
+use Rattle.std.specs.Int.{cast_signed}
+use Rattle.std.proofs.lemmas.Bool.{both_ways, false_from_ne_true}
 use Rattle.std.specs.Cmp.{signed_Decides}
 use Rattle.std.proofs.lemmas.Bool.Decides.{Decides-eqb, Decides-int_eq}
 use Rattle.std.proofs.lemmas.Int.{to_z-of_z}
 use Rattle.std.proofs.lemmas.Option.{get_or_from_slice_get}
-use mir.Val.{SFits}
-use Rattle.d_values.specs.declared.key.KeyPart.{KeyPart}
 use Rattle.d_values.specs.declared.value.Kind.{Kind}
-use Rattle.d_values.specs.declared.value.Kind.TheVariants as kind
-use Rattle.d_values.specs.declared.value.Value.{Value}
 use Rattle.d_values.specs.declared.value.Value.TheVariants.{Text}
-use Rattle.d_values.specs.declared.variable.Var.{Var}
-use Rattle.d_values.specs.Outcomes.{Outcome}
-use Rattle.d_values.specs.Storage.{Variables}
-use Rattle.d_values.specs.Stores.{blank}
 use Rattle.numbered.specs.Tables.{Entries, word_in}
 use Rattle.numbered.specs.Texts.{Keeps}
 use Rattle.numbered.specs.Words.{bits_of, word_of}
 use Rattle.dif_machine.specs.CellLaws.{own_kept}
-use Rattle.dif_machine.specs.Cells.{IsTableOver, AreLocalsOver, cell_of, locals_in, own_in, words_beside, words_of}
+use Rattle.dif_machine.specs.Cells.{IsTableOver, AreLocalsOver, cell_of, locals_in, own_in}
+use Rattle.dif_machine.specs.Cells.{words_beside, words_of}
 use Rattle.numbered.specs.declared.word.Word.{Word}
 use Rattle.dif_machine.specs.declared.fault.MachineFault.{MachineFault}
 use Rattle.dif_machine.specs.Machine.{IsWithin, value_of, word_result}
 use Rattle.dif_codegen.specs.Correct.{Gives}
+use Rattle.replay_core.specs.Vocabulary.{KeyPart, Value, Var, Outcome, Variables, blank}
+use Rattle.replay_core.specs.Evaluation.{Returns}
+use Rattle.replay_core.specs.Steps.Evaluation.{evaluation_of}
 use Rattle.replay_core.specs.declared.evaluation.fault.EvalFault.{EvalFault}
-use Rattle.replay_core.specs.{Evaluation.Returns, Steps.Evaluation.evaluation_of}
 use Rattle.replay_core.specs.Meaning.{Threads, at_start, blank_threads}
 use Rattle.replay_core.specs.Threads.{StoreSeen, threads_of}
 use Rattle.replay_core.specs.WordStore.{is_thread, own_at, word_of_thread}
+use Rattle.d_values.specs.declared.value.Kind.TheVariants as kind
 
 blank_word : (texts : List (List ℕ)) → slice_get texts 0 ≡ Some [] → (k : Kind) → value_of texts (word_of k 0) ≡ blank k
 blank_word texts empty kind.Number = refl
@@ -101,16 +97,15 @@ entered texts now table left locals same kept none over =
 
 -- ---- what runs return
 
-pub returns_by : (o : Outcome Value) (texts : List (List ℕ)) (r : Result Word MachineFault) (s : Result Word EvalFault) (vars : Variables) → s ≡ evaluation_of r
-    → Gives o (word_result texts r) vars → Returns o (word_result texts s) vars
-returns_by o texts (Ok w) s vars is gives = subst (λ s. Returns o (word_result texts s) vars) (sym is) gives
-returns_by o texts (Err MachineFault.DivideByZero) s vars is gives = subst (λ s. Returns o (word_result texts s) vars) (sym is) gives
-returns_by o texts (Err MachineFault.Memory) s vars is gives = subst (λ s. Returns o (word_result texts s) vars) (sym is) tt
+evaluated_as : (o : Outcome Value) (texts : List (List ℕ)) (r : Result Word MachineFault) (vars : Variables) → Gives o (word_result texts r) vars → IfOk r (IsWithin texts)
+    → Returns o (word_result texts (evaluation_of r)) vars × IfOk (evaluation_of r) (IsWithin texts)
+evaluated_as o texts (Ok w) vars gives within = (gives, within)
+evaluated_as o texts (Err MachineFault.DivideByZero) vars gives within = (gives, tt)
+evaluated_as o texts (Err MachineFault.Memory) vars gives within = (tt, tt)
 
-pub within_by : (texts : List (List ℕ)) (r : Result Word MachineFault) (s : Result Word EvalFault) → s ≡ evaluation_of r → IfOk r (IsWithin texts) → IfOk s (IsWithin texts)
-within_by texts (Ok w) s is within = subst (λ s. IfOk s (IsWithin texts)) (sym is) within
-within_by texts (Err MachineFault.DivideByZero) s is within = subst (λ s. IfOk s (IsWithin texts)) (sym is) tt
-within_by texts (Err MachineFault.Memory) s is within = subst (λ s. IfOk s (IsWithin texts)) (sym is) tt
+pub evaluated : (o : Outcome Value) (texts : List (List ℕ)) (r : Result Word MachineFault) (s : Result Word EvalFault) (vars : Variables) → s ≡ evaluation_of r
+    → Gives o (word_result texts r) vars → IfOk r (IsWithin texts) → Returns o (word_result texts s) vars × IfOk s (IsWithin texts)
+evaluated o texts r s vars is gives within = subst (λ s. Returns o (word_result texts s) vars × IfOk s (IsWithin texts)) (sym is) (evaluated_as o texts r vars gives within)
 
 -- ---- a run on one thread
 
@@ -135,13 +130,10 @@ module _ (old new : List (List ℕ)) (kept : Keeps old new) (table left : Entrie
       back z fits = (signed_Decides (cast_signed w64 (word_of_thread z)) z).0 fits
 
       differs : is_thread t ≡ true → (word_of_thread t == thread) ≡ false
-      differs fits = elim (word_of_thread t == thread) as (λ b. (word_of_thread t == thread) ≡ b → b ≡ false) [
-        | true ↦ λ e.
-            let same : word_of_thread t ≡ word_of_thread at = (Decides-eqb (word_of_thread t) thread).0 e ∙ is in
-            let one : t ≡ at = sym (back t fits) ∙ ap (cast_signed w64) same ∙ back at ok in
-            absurd (true≢false (sym ((Decides-int_eq t at).1 one) ∙ apart))
-        | false ↦ λ e. refl
-      ] refl
+      differs fits = false_from_ne_true (word_of_thread t == thread) (λ e.
+          let same : word_of_thread t ≡ word_of_thread at = (Decides-eqb (word_of_thread t) thread).0 e ∙ is in
+          let one : t ≡ at = sym (back t fits) ∙ ap (cast_signed w64) same ∙ back at ok in
+          both_ways (int_eq t at) apart ((Decides-int_eq t at).1 one))
 
       kept_there : is_thread t ≡ true → (x : Var) (key : List KeyPart) → own_in new left (word_of_thread t) x key ≡ own_in old table (word_of_thread t) x key
       kept_there fits x key =

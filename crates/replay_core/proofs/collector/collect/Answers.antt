@@ -1,10 +1,9 @@
 use Rattle.std.proofs.Common.{◌≡◌, Some, Err, length, sym, ap, ◌∙◌, subst, List, IfErr, Option}
-use Rattle.std.proofs.Common.{arith, rules}
-use Rattle.std.specs.List.Sorted.{IsPermutation}
+use Rattle.std.proofs.Common.{arith, rules, IsPermutation}
+use Rattle.std.proofs.lemmas.List.{length-map}
 use Rattle.replay_core.specs.declared.lanes.piece.Piece.{Piece}
 use Rattle.replay_core.specs.Steps.PiecePlaces.{pieces_with_places}
 use Rattle.replay_core.specs.Collecting.{IsCollectFault}
-use Rattle.std.proofs.lemmas.List.{length-map}
 use Rattle.replay_core.proofs.SamePieces.{standing_all}
 use Rattle.replay_core.proofs.CollectSteps.{fault_bad, fault_missing, can_sorted}
 use Rattle.replay_core.proofs.collector.collect.Goals as goal

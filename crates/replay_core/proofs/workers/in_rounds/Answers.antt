@@ -1,7 +1,7 @@
 use Rattle.std.proofs.Common.{rules, ◌≡◌, ◌+◌, ap, sym, ◌∙◌, false}
 use Rattle.std.proofs.lemmas.Result.{IfOk-weaker}
-use Rattle.firings.specs.Ends.{end_of}
 use Rattle.firings.specs.Firings.{last_number}
+use Rattle.replay_core.specs.Vocabulary.{end_of}
 use Rattle.replay_core.proofs.Rounds.{one_round, plain_round, two_rounds}
 use Rattle.replay_core.proofs.workers.in_rounds.Goals as goal
 

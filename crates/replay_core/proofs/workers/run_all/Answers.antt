@@ -1,5 +1,5 @@
 use Rattle.std.proofs.Common.{◌≡◌, None, Some, map, sym, ◌∙◌, subst, arith}
-use Rattle.shard_queue.specs.Groups.{grouping}
+use Rattle.replay_core.specs.Vocabulary.{grouping}
 use Rattle.replay_core.specs.declared.collect_fault.CollectFault.TheVariants.{Twice, Stranger}
 use Rattle.replay_core.specs.Collecting.{IsCollectFault, IsCollected}
 use Rattle.replay_core.specs.Exit.{firings_over}

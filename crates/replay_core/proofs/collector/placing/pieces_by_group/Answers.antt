@@ -1,17 +1,12 @@
-use Rattle.std.proofs.Common.{◌≡◌, ◌<◌, ◌++◌, ◌∷◌, [], List, None, Some, get_or, length, refl, ap, sym}
-use Rattle.std.proofs.Common.{◌∙◌, subst, arith, rules, append-nil}
-use Rattle.std.proofs.lemmas.List.{length-set}
+use Rattle.std.proofs.Common.{◌≡◌, ◌<◌, ◌++◌, ◌∷◌, [], None, Some, get_or, length, ap, sym, ◌∙◌}
+use Rattle.std.proofs.Common.{subst, arith, rules, append-nil, length-set, IsPermutation}
+use Rattle.std.proofs.lemmas.List.{nil_from_length}
 use Rattle.std.specs.Vec.Iter.{into_iter_items}
 use Rattle.replay_core.specs.Steps.PiecePlaces.{is_filled, pieces_with_places}
 use Rattle.replay_core.specs.Collecting.{first_bad_after}
-use Rattle.std.specs.List.Sorted.{IsPermutation}
 use Rattle.replay_core.proofs.SamePieces.{same_start, same_next}
 use Rattle.replay_core.proofs.PlaceSteps.{bad_next, bad_start, fault_is, none_pushed}
 use Rattle.replay_core.proofs.collector.placing.pieces_by_group.Goals as goal
-
-nil_from : {A : Type 0} (l : List A) → length l ≡ 0 → l ≡ []
-nil_from [] e = refl
-nil_from (x ∷ l) e = absurd (omega arith)
 
 pub room-preserved : goal.room-preserved
 room-preserved c =
@@ -60,12 +55,12 @@ fill-preserved c =
 
 pub returns-clause-ok : goal.returns-clause-ok
 returns-clause-ok c =
-    let end : into_iter_items c.fill.group-iterator ≡ [] = let n = c.in-None.ensures.steps.0 in nil_from (into_iter_items c.fill.group-iterator) (search rules) in
+    let end : into_iter_items c.fill.group-iterator ≡ [] = let n = c.in-None.ensures.steps.0 in nil_from_length (into_iter_items c.fill.group-iterator) (search rules) in
     let inv = c.fill.invariant in
     (inv.len, inv.bad ∙ ap (first_bad_after (is_filled c.fill.places.items) c.args.n) end)
 
 pub returns-clause-same : goal.returns-clause-same
 returns-clause-same c =
-    let end : into_iter_items c.fill.group-iterator ≡ [] = let n = c.in-None.ensures.steps.0 in nil_from (into_iter_items c.fill.group-iterator) (search rules) in
+    let end : into_iter_items c.fill.group-iterator ≡ [] = let n = c.in-None.ensures.steps.0 in nil_from_length (into_iter_items c.fill.group-iterator) (search rules) in
     let places = c.fill.places.items in
     subst (λ l. IsPermutation c.args.pieces.items l) (ap (λ l. pieces_with_places 0 places ++ l) end ∙ append-nil (pieces_with_places 0 places)) c.fill.invariant.same

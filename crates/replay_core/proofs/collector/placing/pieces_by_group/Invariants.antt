@@ -1,10 +1,7 @@
-use Rattle.std.proofs.Common.{◌≡◌, ◌≤◌, ◌++◌, ℕ, None, get_or, vec_len}
-use Rattle.std.specs.Vec.{vec_capacity}
+use Rattle.std.proofs.Common.{◌≡◌, ◌≤◌, ◌++◌, ℕ, None, get_or, vec_len, vec_capacity, IsPermutation}
 use Rattle.std.specs.Vec.Iter.{into_iter_items}
-use Rattle.std.specs.List.Sorted.{IsPermutation}
-use Rattle.replay_core.specs.Steps.PiecePlaces.{is_filled}
+use Rattle.replay_core.specs.Steps.PiecePlaces.{is_filled, pieces_with_places}
 use Rattle.replay_core.specs.Collecting.{first_bad, first_bad_after}
-use Rattle.replay_core.specs.Steps.PiecePlaces.{pieces_with_places}
 use Rattle.replay_core.proofs.collector.placing.pieces_by_group.Given as goal
 
 abbrev pub invariant-room : goal.invariant-room

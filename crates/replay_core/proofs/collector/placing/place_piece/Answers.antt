@@ -1,4 +1,5 @@
-use Rattle.std.proofs.Common.{◌≡◌, ◌<◌, true, false, None, is_some, get_or, length, sym, ap, ◌∙◌, rules}
+use Rattle.std.proofs.Common.{◌≡◌, ◌<◌, true, false, None, is_some, get_or, length, sym, ap, ◌∙◌}
+use Rattle.std.proofs.Common.{rules}
 use Rattle.std.proofs.lemmas.List.{get_or_default}
 use Rattle.replay_core.specs.Steps.PiecePlaces.{is_filled}
 use Rattle.replay_core.proofs.PlaceSteps.{bad_stranger, bad_twice}

@@ -1,6 +1,6 @@
 use Rattle.std.proofs.Common.{rules, arith, ap}
-use Rattle.d_types.specs.Typed.{typed_of}
 use Rattle.d_types.proofs.Nodes.{read_is, assign_is, update_is, step_is}
+use Rattle.replay_core.specs.Vocabulary.{typed_of}
 use Rattle.replay_core.proofs.Weights.{weight, key_is_light}
 use Rattle.replay_core.proofs.evaluation.expression.+evaluation.Goals as goal
 

@@ -1,6 +1,5 @@
 use Rattle.std.proofs.Common.{◌≡◌, ◌+◌, ◌*◌, ◌++◌, drop}
-use Rattle.d_types.specs.Typed.{typed_of, typeds_of}
-use Rattle.d_types.specs.Expressions.{Has, with, keys_of}
+use Rattle.replay_core.specs.Vocabulary.{typed_of, typeds_of, Has, with, keys_of}
 use Rattle.replay_core.specs.Evaluation.{Stays, variables_in}
 use Rattle.replay_core.specs.Threads.{tables_seen}
 use Rattle.replay_core.proofs.Weights.{weight, weights}

@@ -1,15 +1,12 @@
-use Rattle.std.specs.Prelude.{◌≡◌, ◌+◌, ◌<◌, ◌≤◌, false, ℕ, List, All, length}
-use Rattle.std.proofs.Common.{arith, refl, subst, sym, ap, ◌∙◌}
-use Rattle.aggregations.specs.Table.{functions_of}
-use Rattle.d_types.specs.Clauses.{run_of}
-use Rattle.d_types.specs.Held.{HasTypedBuiltIns}
-use Rattle.firings.specs.declared.firing.Firing.{Firing}
+use Rattle.std.proofs.Common.{◌≡◌, ◌+◌, ◌<◌, ◌≤◌, false, ℕ, List, All, length, arith, refl, subst}
+use Rattle.std.proofs.Common.{sym, ap, ◌∙◌}
+use Rattle.shard_queue.proofs.Lists.{all_head, all_tail}
+use Rattle.replay_core.specs.Vocabulary.{functions_of, run_of, HasTypedBuiltIns, Firing}
 use Rattle.replay_core.specs.Effects.{NotesRun}
 use Rattle.replay_core.specs.Evaluation.{variables_in}
 use Rattle.replay_core.specs.Seen.{piece_seen}
 use Rattle.replay_core.proofs.StateLemmas.{stays_refl, stays_then, taken_still}
 use Rattle.replay_core.proofs.Turning.{Continues, continues_all, continues_start, turn_more}
-use Rattle.shard_queue.proofs.Lists.{all_head, all_tail}
 use Rattle.replay_core.proofs.lanes.clause_runs.run_clauses.Goals as goal
 
 pub loop-index-init : goal.loop-index-init

@@ -1,8 +1,6 @@
-use Rattle.std.proofs.Common.{◌≡◌, ◌+◌, ◌*◌, ◌<◌, ◌≤◌, length}
-use Rattle.std.specs.Prelude.{List, All}
-use Rattle.aggregations.specs.Table.{count_held, functions_of}
-use Rattle.d_types.specs.Held.{AreTyped, HasTypedBuiltIns, Slots}
-use Rattle.d_types.specs.Typed.{ClauseMeant}
+use Rattle.std.proofs.Common.{◌≡◌, ◌+◌, ◌*◌, ◌<◌, ◌≤◌, length, List, All}
+use Rattle.replay_core.specs.Vocabulary.{count_held, functions_of, AreTyped, HasTypedBuiltIns}
+use Rattle.replay_core.specs.Vocabulary.{Slots, ClauseMeant}
 use Rattle.replay_core.specs.Evaluation.{Stays, variables_in}
 use Rattle.replay_core.specs.Scripts.{AllMean}
 use Rattle.replay_core.specs.Seen.{piece_seen}

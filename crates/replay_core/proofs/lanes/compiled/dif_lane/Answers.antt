@@ -1,11 +1,7 @@
-use Rattle.std.specs.Prelude.{◌≡◌, ◌≤◌, All, length, map}
-use Rattle.std.specs.List.{AllZip}
-use Rattle.std.proofs.Common.{ap, subst, sym, ◌∙◌}
+use Rattle.std.proofs.Common.{◌≡◌, ◌≤◌, All, length, map, ap, subst, sym, ◌∙◌}
 use Rattle.std.proofs.lemmas.List.{length-map}
 use Rattle.std.proofs.lemmas.Result.{IfOk-weaker}
-use Rattle.d_types.specs.Held.{slots_of}
-use Rattle.dif_codegen.specs.Meaning.{IsSameClause}
-use Rattle.dif_codegen.specs.Programs.{action_code}
+use Rattle.replay_core.specs.Vocabulary.{AllZip, slots_of, IsSameClause, action_code}
 use Rattle.replay_core.specs.Bounds.{AreBounded, indices_among}
 use Rattle.replay_core.proofs.ProgramLemmas.{program_few, program_few_probes, program_named}
 use Rattle.replay_core.proofs.TreeLemmas.{script_keeps}

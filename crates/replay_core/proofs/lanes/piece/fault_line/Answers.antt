@@ -1,6 +1,4 @@
-use Rattle.std.specs.Fmt.{decimal}
-use Rattle.std.specs.Prelude.{codes}
-use Rattle.std.proofs.Common.{◌≡◌, ◌++◌, List, ℕ, ap, append_assoc, ◌∙◌}
+use Rattle.std.proofs.Common.{decimal, codes, ◌≡◌, ◌++◌, List, ℕ, ap, append_assoc, ◌∙◌}
 use Rattle.replay_core.proofs.lanes.piece.fault_line.Goals as goal
 
 -- what five parts make, one after the other

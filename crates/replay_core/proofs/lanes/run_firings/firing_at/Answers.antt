@@ -1,6 +1,6 @@
 use Rattle.std.proofs.Common.{◌≡◌, ◌-◌, ◌+◌, ◌∷◌, [], ◌∙◌, Some, ap, length, slice_get, sym, arith}
-use Rattle.std.proofs.lemmas.List.{length-append}
-use Rattle.firings.specs.Ends.{end_of}
+use Rattle.std.proofs.Common.{length-append}
+use Rattle.replay_core.specs.Vocabulary.{end_of}
 use Rattle.replay_core.proofs.TraceRuns.{at_end, at_row, run_few}
 use Rattle.replay_core.proofs.lanes.run_firings.firing_at.Goals as goal
 

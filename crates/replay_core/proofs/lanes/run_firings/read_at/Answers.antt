@@ -1,5 +1,5 @@
 use Rattle.std.proofs.Common.{◌≡◌, Some, sym, ◌∙◌}
-use Rattle.firings.specs.Stored.{row_before}
+use Rattle.replay_core.specs.Vocabulary.{row_before}
 use Rattle.replay_core.proofs.FetchLemmas.{row_at}
 use Rattle.replay_core.proofs.lanes.run_firings.read_at.Goals as goal
 

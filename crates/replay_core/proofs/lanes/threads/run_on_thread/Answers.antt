@@ -1,8 +1,7 @@
-use Rattle.std.specs.Prelude.{false, is_some, if◌then◌else◌}
-use Rattle.std.specs.Ordering.{int_eq}
-use Rattle.std.proofs.Common.{refl, rules, subst, sym, ap, ◌∙◌}
+use Rattle.std.proofs.Common.{false, is_some, if◌then◌else◌, int_eq, refl, rules, subst, sym, ap}
+use Rattle.std.proofs.Common.{◌∙◌}
 use Rattle.std.proofs.lemmas.Result.{IfOk-weaker}
-use Rattle.d_types.specs.Clauses.{Made}
+use Rattle.replay_core.specs.Vocabulary.{Made}
 use Rattle.replay_core.specs.Lanes.{Notes}
 use Rattle.replay_core.specs.Meaning.{Threads, at_start}
 use Rattle.replay_core.specs.Seen.{piece_seen}

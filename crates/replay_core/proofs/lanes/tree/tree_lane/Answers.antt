@@ -1,14 +1,10 @@
-use Rattle.std.specs.Prelude.{◌≡◌, ◌≤◌, All, length, map}
-use Rattle.std.proofs.Common.{ap, subst, sym, ◌∙◌}
+use Rattle.std.proofs.Common.{◌≡◌, ◌≤◌, All, length, map, ap, subst, sym, ◌∙◌}
 use Rattle.std.proofs.lemmas.List.{length-map}
 use Rattle.std.proofs.lemmas.Result.{IfOk-weaker}
-use Rattle.std.specs.List.{AllZip}
-use Rattle.d_types.specs.Sizes.{statement_count}
-use Rattle.d_types.specs.Typed.{meant_of}
-use Rattle.d_types.specs.TypedScripts.{typed_script_of}
+use Rattle.replay_core.specs.Vocabulary.{AllZip, statement_count, meant_of, typed_script_of}
 use Rattle.replay_core.specs.Bounds.{AreBounded, indices_in}
-use Rattle.replay_core.proofs.TreeLemmas.{all_few, all_named, few_probes, functions_same, script_keeps}
-use Rattle.replay_core.proofs.TreeLemmas.{trees_mean}
+use Rattle.replay_core.proofs.TreeLemmas.{all_few, all_named, few_probes, functions_same}
+use Rattle.replay_core.proofs.TreeLemmas.{script_keeps, trees_mean}
 use Rattle.replay_core.proofs.lanes.tree.tree_lane.Goals as goal
 
 pub new-requires : goal.new-requires

@@ -1,7 +1,6 @@
-use Rattle.std.specs.Prelude.{◌≡◌, ◌∷◌, ◌++◌, [], false, length, map, take, Err}
-use Rattle.std.proofs.Common.{refl, rules, subst, sym, ap, ◌∙◌}
-use Rattle.d_types.specs.Expressions.{number_outcome}
-use Rattle.d_types.specs.Clauses.{fault_line}
+use Rattle.std.proofs.Common.{◌≡◌, ◌∷◌, ◌++◌, [], false, length, map, take, Err, refl, rules, subst}
+use Rattle.std.proofs.Common.{sym, ap, ◌∙◌}
+use Rattle.replay_core.specs.Vocabulary.{number_outcome, fault_line}
 use Rattle.replay_core.specs.Effects.{NotesRun}
 use Rattle.replay_core.specs.Steps.EffectRuns.{run_result, statements_by, where_predicate}
 use Rattle.replay_core.specs.Steps.EffectRuns.{where_true}

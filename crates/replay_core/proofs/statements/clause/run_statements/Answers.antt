@@ -1,9 +1,8 @@
-use Rattle.std.specs.Prelude.{◌≡◌, ◌+◌, ◌<◌, ◌∷◌, ◌++◌, [], ◌||◌, length, map, take, Ok, Err}
-use Rattle.std.proofs.Common.{refl, rules, arith, drop, subst, sym, ap, ◌∙◌}
+use Rattle.std.proofs.Common.{◌≡◌, ◌+◌, ◌<◌, ◌∷◌, ◌++◌, [], ◌||◌, length, map, take, Ok, Err, refl}
+use Rattle.std.proofs.Common.{rules, arith, drop, subst, sym, ap, ◌∙◌}
 use Rattle.std.proofs.lemmas.List.{drop_all}
-use Rattle.aggregations.specs.Table.{functions_of}
-use Rattle.d_types.specs.Clauses.{effect_by, fault_line}
 use Rattle.shard_queue.proofs.Lists.{drop_next}
+use Rattle.replay_core.specs.Vocabulary.{functions_of, effect_by, fault_line}
 use Rattle.replay_core.specs.Bounds.{index_in}
 use Rattle.replay_core.specs.Steps.EffectRuns.{effect_then, statements_by}
 use Rattle.replay_core.specs.Steps.Effects.{Performs}

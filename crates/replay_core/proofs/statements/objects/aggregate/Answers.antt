@@ -1,17 +1,14 @@
-use Rattle.std.specs.Prelude.{◌≡◌, ◌∷◌, ◌++◌, [], FitsSigned}
-use Rattle.std.specs.Int.{w64}
-use Rattle.std.proofs.Common.{refl, rules, subst, sym, ap, ◌∙◌}
+use Rattle.std.proofs.Common.{◌≡◌, ◌∷◌, ◌++◌, [], FitsSigned, w64, refl, rules, subst, sym, ap, ◌∙◌}
 use Rattle.std.proofs.lemmas.Int.{to_z-of_z}
-use Rattle.aggregations.specs.Table.{StandsFor, contribution}
-use Rattle.d_types.specs.Clauses.{argument_by}
-use Rattle.d_types.specs.Expressions.{Has}
+use Rattle.aggregations.specs.Table.{contribution}
 use Rattle.numbered.specs.Words.{key_in}
 use Rattle.dif_codegen.specs.Meaning.{by_objects}
 use Rattle.dif_machine.specs.Machine.{Knows}
+use Rattle.dif_machine.proofs.Holding.{key_kept}
+use Rattle.replay_core.specs.Vocabulary.{StandsFor, argument_by, Has}
 use Rattle.replay_core.specs.Seen.{piece_seen}
 use Rattle.replay_core.specs.WordStore.{WordsSeen, words_seen}
 use Rattle.replay_core.proofs.EffectLemmas.{adds}
-use Rattle.dif_machine.proofs.Holding.{key_kept}
 use Rattle.replay_core.proofs.StateLemmas.{stays_then}
 use Rattle.replay_core.proofs.statements.objects.aggregate.Goals as goal
 

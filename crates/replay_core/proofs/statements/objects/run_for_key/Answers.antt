@@ -1,12 +1,11 @@
-use Rattle.std.specs.Prelude.{◌≡◌, ◌+◌, ◌++◌, [], Err}
-use Rattle.std.specs.List.{All}
-use Rattle.std.proofs.Common.{refl, rules, arith, drop, subst, sym, ap, ◌∙◌}
-use Rattle.std.proofs.lemmas.List.{append-nil, drop_all}
+use Rattle.std.proofs.Common.{◌≡◌, ◌+◌, ◌++◌, [], Err, All, refl, rules, arith, drop, subst, sym}
+use Rattle.std.proofs.Common.{ap, ◌∙◌, append-nil}
+use Rattle.std.proofs.lemmas.List.{drop_all}
 use Rattle.numbered.specs.Words.{key_in}
-use Rattle.d_types.specs.Expressions.{Has, with}
 use Rattle.dif_machine.specs.Machine.{IsWithin}
 use Rattle.dif_codegen.specs.Meaning.{key_of_objects}
 use Rattle.shard_queue.proofs.Lists.{drop_next}
+use Rattle.replay_core.specs.Vocabulary.{Has, with}
 use Rattle.replay_core.specs.Steps.Evaluation.{IsMadeKey}
 use Rattle.replay_core.specs.WordStore.{words_seen}
 use Rattle.replay_core.proofs.KeyLemmas.{part_faults, part_further, within_more}

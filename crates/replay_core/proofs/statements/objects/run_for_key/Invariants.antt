@@ -1,9 +1,8 @@
-use Rattle.std.proofs.Common.{◌≡◌, ◌++◌, drop}
-use Rattle.std.specs.List.{All}
+use Rattle.std.proofs.Common.{◌≡◌, ◌++◌, drop, All}
 use Rattle.numbered.specs.Words.{key_in}
-use Rattle.d_types.specs.Expressions.{Has, with}
 use Rattle.dif_codegen.specs.Meaning.{key_of_objects}
 use Rattle.dif_machine.specs.Machine.{IsWithin}
+use Rattle.replay_core.specs.Vocabulary.{Has, with}
 use Rattle.replay_core.specs.Evaluation.{Stays, variables_in}
 use Rattle.replay_core.specs.WordStore.{words_seen}
 use Rattle.replay_core.proofs.statements.objects.run_for_key.Given as goal

@@ -1,6 +1,5 @@
 use Rattle.std.proofs.Common.{◌%◌, Some, ap, ◌∙◌}
-use Rattle.std.specs.Option.{option_or}
-use Rattle.d_types.specs.Expressions.{number_outcome}
+use Rattle.replay_core.specs.Vocabulary.{option_or, number_outcome}
 use Rattle.replay_core.specs.Evaluation.{variables_in}
 use Rattle.replay_core.specs.Seen.{piece_seen}
 use Rattle.replay_core.proofs.EffectLemmas.{leaves}

@@ -1,9 +1,9 @@
 use Rattle.std.proofs.Common.{map, refl, rules, subst}
-use Rattle.d_types.specs.declared.effect.Effect.TheVariants as ef
 use Rattle.d_types.specs.Printing.{printf_text}
 use Rattle.replay_core.specs.Steps.Effects.{NotesEffect}
 use Rattle.replay_core.specs.Evaluation.{variables_in}
 use Rattle.replay_core.specs.Seen.{piece_seen}
+use Rattle.d_types.specs.declared.effect.Effect.TheVariants as ef
 use Rattle.replay_core.proofs.EffectLemmas.{says}
 use Rattle.replay_core.proofs.StateLemmas.{number_stays, taken_still}
 use Rattle.replay_core.proofs.statements.statement.print.Goals as goal

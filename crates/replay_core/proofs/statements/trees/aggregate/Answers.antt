@@ -1,10 +1,7 @@
-use Rattle.std.specs.Prelude.{◌≡◌, ◌∷◌, ◌++◌, [], FitsSigned}
-use Rattle.std.specs.Int.{w64}
-use Rattle.std.proofs.Common.{rules, subst}
+use Rattle.std.proofs.Common.{◌≡◌, ◌∷◌, ◌++◌, [], FitsSigned, w64, rules, subst}
 use Rattle.std.proofs.lemmas.Int.{to_z-of_z}
-use Rattle.aggregations.specs.Table.{StandsFor, contribution}
-use Rattle.d_types.specs.Clauses.{argument_by}
-use Rattle.d_types.specs.Expressions.{Has}
+use Rattle.aggregations.specs.Table.{contribution}
+use Rattle.replay_core.specs.Vocabulary.{StandsFor, argument_by, Has}
 use Rattle.replay_core.specs.Evaluation.{variables_in}
 use Rattle.replay_core.specs.Forms.{by_expressions}
 use Rattle.replay_core.specs.Threads.{tables_seen}

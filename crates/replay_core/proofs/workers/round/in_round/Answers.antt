@@ -1,7 +1,7 @@
 use Rattle.std.proofs.Common.{rules, arith, ◌≡◌, ◌<◌, ap, subst, sym, ◌∙◌, length, vec_len}
+use Rattle.std.proofs.Common.{flat_map}
 use Rattle.std.proofs.lemmas.List.{length-map}
-use Rattle.std.specs.List.{flat_map}
-use Rattle.shard_queue.specs.Groups.{grouping}
+use Rattle.replay_core.specs.Vocabulary.{grouping}
 use Rattle.replay_core.specs.AtBoard.{Gives, IsRound, IsWork}
 use Rattle.replay_core.specs.declared.workers.round.Round.{Round}
 use Rattle.replay_core.proofs.Parts.{all_at, drawn_lists, finished_parts, whole_round}

@@ -1,8 +1,6 @@
 use Rattle.std.proofs.Common.{◌<◌, sym, ap, ◌∙◌, subst, refl, length, All, ℕ, List, arith}
-use Rattle.firings.specs.declared.firing.Firing.{Firing}
-use Rattle.firings.specs.Ends.{with_ends}
-use Rattle.shard_queue.specs.Groups.{grouping}
 use Rattle.shard_queue.specs.Groupings.{indices_of}
+use Rattle.replay_core.specs.Vocabulary.{Firing, with_ends, grouping}
 use Rattle.replay_core.specs.Beginnings.{lesser_of}
 use Rattle.replay_core.specs.Steps.Beginnings.{RunsBeginning}
 use Rattle.replay_core.specs.Groups.{is_group}

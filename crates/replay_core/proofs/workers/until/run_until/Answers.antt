@@ -1,10 +1,7 @@
-use Rattle.std.proofs.Common.{◌≡◌, ◌+◌, ◌<◌, [], ◌∷◌, ◌++◌, arith, length, take, drop}
-use Rattle.std.proofs.Common.{get_or, min, sym, ap, ◌∙◌, subst, append_assoc, List}
-use Rattle.std.specs.Prelude.{slice_index}
+use Rattle.std.proofs.Common.{◌≡◌, ◌+◌, ◌<◌, [], ◌∷◌, ◌++◌, arith, length, take, drop, get_or, min}
+use Rattle.std.proofs.Common.{sym, ap, ◌∙◌, subst, append_assoc, List, slice_index}
 use Rattle.std.proofs.lemmas.List.{get_or_default, length-map}
-use Rattle.firings.specs.declared.firing.Firing.{Firing}
-use Rattle.firings.specs.Ends.{with_ends}
-use Rattle.firings.specs.Firings.{number_of}
+use Rattle.replay_core.specs.Vocabulary.{Firing, with_ends, number_of}
 use Rattle.replay_core.specs.Beginnings.{exit_over, lesser_of}
 use Rattle.replay_core.specs.Running.{IsLaneOf}
 use Rattle.replay_core.specs.Steps.Working.{firings_at}

@@ -1,6 +1,5 @@
 use Rattle.std.proofs.Common.{◌≡◌, ◌≤◌, None, take}
-use Rattle.d_types.specs.Typed.{ScriptMeant}
-use Rattle.firings.specs.Ends.{with_ends}
+use Rattle.replay_core.specs.Vocabulary.{ScriptMeant, with_ends}
 use Rattle.replay_core.specs.Beginnings.{exit_over}
 use Rattle.replay_core.specs.Running.{IsLaneOf}
 use Rattle.replay_core.specs.Selecting.{AreFor}

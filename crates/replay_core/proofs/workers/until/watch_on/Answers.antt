@@ -1,7 +1,6 @@
 use Rattle.std.proofs.Common.{◌≤◌, sym, ap, ◌∙◌, arith, subst}
-use Rattle.firings.specs.Ends.{with_ends}
-use Rattle.shard_queue.specs.Groups.{grouping}
 use Rattle.shard_queue.proofs.Lists.{all_push}
+use Rattle.replay_core.specs.Vocabulary.{with_ends, grouping}
 use Rattle.replay_core.specs.Beginnings.{AreBegun, IsBegunOf, least_exit, lesser_of}
 use Rattle.replay_core.specs.Seen.{IsRoomy}
 use Rattle.replay_core.proofs.WorkSteps.{groups_more}

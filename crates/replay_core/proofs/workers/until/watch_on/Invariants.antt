@@ -1,6 +1,5 @@
 use Rattle.std.proofs.Common.{◌≡◌, map}
-use Rattle.firings.specs.Ends.{with_ends}
-use Rattle.shard_queue.specs.Groups.{grouping}
+use Rattle.replay_core.specs.Vocabulary.{with_ends, grouping}
 use Rattle.replay_core.specs.Beginnings.{AreBegun, least_exit}
 use Rattle.replay_core.proofs.workers.until.watch_on.Given as goal
 

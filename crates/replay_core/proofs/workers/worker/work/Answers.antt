@@ -1,6 +1,5 @@
 use Rattle.std.proofs.Common.{subst, List, IfOk}
-use Rattle.firings.specs.Ends.{with_ends}
-use Rattle.firings.specs.declared.firing.Firing.{Firing}
+use Rattle.replay_core.specs.Vocabulary.{with_ends, Firing}
 use Rattle.replay_core.specs.AtBoard.{GivesPieces, IsWorkOf}
 use Rattle.replay_core.proofs.TraceRuns.{all_count}
 use Rattle.replay_core.proofs.workers.worker.work.Goals as goal

@@ -1,5 +1,5 @@
-use Rattle.shard_queue.specs.Groups.{grouping}
 use Rattle.shard_queue.proofs.Lists.{all_push}
+use Rattle.replay_core.specs.Vocabulary.{grouping}
 use Rattle.replay_core.specs.Seen.{IsRoomy}
 use Rattle.replay_core.specs.Working.{IsOfGroup, firings_in}
 use Rattle.replay_core.proofs.WorkSteps.{groups_more}

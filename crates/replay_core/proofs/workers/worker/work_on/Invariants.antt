@@ -1,5 +1,5 @@
 use Rattle.std.proofs.Common.{◌≡◌, map}
-use Rattle.shard_queue.specs.Groups.{grouping}
+use Rattle.replay_core.specs.Vocabulary.{grouping}
 use Rattle.replay_core.specs.Working.{AreOfGroups, firings_in}
 use Rattle.replay_core.proofs.workers.worker.work_on.Given as goal
 

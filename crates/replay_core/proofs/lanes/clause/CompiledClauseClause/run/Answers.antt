@@ -1,9 +1,7 @@
-use Rattle.std.specs.Prelude.{length, map}
-use Rattle.std.proofs.Common.{subst, sym, ap, ◌∙◌}
+use Rattle.std.proofs.Common.{length, map, subst, sym, ap, ◌∙◌}
 use Rattle.std.proofs.lemmas.Result.{IfOk-weaker}
-use Rattle.d_types.specs.Clauses.{fault_line}
 use Rattle.dif_codegen.specs.Meaning.{by_objects}
-use Rattle.dif_codegen.specs.Programs.{action_code}
+use Rattle.replay_core.specs.Vocabulary.{fault_line, action_code}
 use Rattle.replay_core.specs.Bounds.{indices_among}
 use Rattle.replay_core.specs.Effects.{CanNote, HasMore, NotesRun}
 use Rattle.replay_core.specs.Evaluation.{variables_in}

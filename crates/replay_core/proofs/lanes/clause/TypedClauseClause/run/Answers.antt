@@ -1,9 +1,8 @@
-use Rattle.std.specs.Prelude.{length, map}
-use Rattle.std.proofs.Common.{subst, sym, ap, ◌∙◌}
+use Rattle.std.proofs.Common.{length, map, subst, sym, ap, ◌∙◌}
 use Rattle.std.proofs.lemmas.List.{length-map}
 use Rattle.std.proofs.lemmas.Result.{IfOk-weaker}
-use Rattle.d_types.specs.Clauses.{fault_line, run_of}
-use Rattle.d_types.specs.Typed.{action_of, meant_of}
+use Rattle.d_types.specs.Typed.{action_of}
+use Rattle.replay_core.specs.Vocabulary.{fault_line, run_of, meant_of}
 use Rattle.replay_core.specs.Bounds.{indices_among, indices_in}
 use Rattle.replay_core.specs.Effects.{CanNote, HasMore, NotesRun}
 use Rattle.replay_core.specs.Evaluation.{variables_in}

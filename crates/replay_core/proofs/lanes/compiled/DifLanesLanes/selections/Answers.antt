@@ -1,9 +1,6 @@
-use Rattle.std.specs.Prelude.{◌≤◌, length, sum_by}
-use Rattle.std.specs.List.{AllZip}
-use Rattle.std.proofs.Common.{subst, sym}
+use Rattle.std.proofs.Common.{◌≤◌, length, sum_by, subst, sym}
 use Rattle.std.proofs.lemmas.Result.{IfOk-weaker}
-use Rattle.d_types.specs.Held.{slots_of}
-use Rattle.dif_codegen.specs.Meaning.{IsSameClause}
+use Rattle.replay_core.specs.Vocabulary.{AllZip, slots_of, IsSameClause}
 use Rattle.replay_core.proofs.ProgramLemmas.{program_few_probes}
 use Rattle.replay_core.proofs.lanes.compiled.DifLanesLanes.selections.Goals as goal
 

@@ -1,7 +1,6 @@
-use Rattle.std.specs.Prelude.{◌≡◌}
-use Rattle.std.proofs.Common.{subst, sym, ◌∙◌}
-use Rattle.d_types.specs.Held.{AreTypedOwn, slots_of}
+use Rattle.std.proofs.Common.{◌≡◌, subst, sym, ◌∙◌}
 use Rattle.d_types.proofs.FiringValues.{own_unassigned}
+use Rattle.replay_core.specs.Vocabulary.{AreTypedOwn, slots_of}
 use Rattle.replay_core.specs.Meaning.{blank_threads}
 use Rattle.replay_core.specs.Threads.{threads_of}
 use Rattle.replay_core.proofs.lanes.lane.Lane.new.Goals as goal

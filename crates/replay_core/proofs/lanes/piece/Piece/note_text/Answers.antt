@@ -1,4 +1,4 @@
-use Rattle.std.specs.Prelude.{is_ok}
+use Rattle.std.proofs.Common.{is_ok}
 use Rattle.replay_core.proofs.NotedLemmas.{event_noted}
 use Rattle.replay_core.proofs.lanes.piece.Piece.note_text.Goals as goal
 

@@ -1,11 +1,6 @@
-use Rattle.std.specs.Prelude.{◌≡◌}
-use Rattle.std.specs.Map.{lookup}
-use Rattle.std.specs.Ordering.{int_eq}
-use Rattle.std.proofs.Common.{rules, ap, ◌∙◌}
+use Rattle.std.proofs.Common.{◌≡◌, int_eq, rules, ap, ◌∙◌, SFits, w32}
 use Rattle.std.proofs.lemmas.Int.{to_z-of_z}
-use mir.Val.{SFits}
-use mir.Syntax.{w32}
-use Rattle.d_values.specs.Stores.{own_of}
+use Rattle.replay_core.specs.Vocabulary.{lookup, own_of}
 use Rattle.replay_core.specs.Threads.{own_in, threads_of}
 use Rattle.replay_core.proofs.TableThreads.{seen_with, threads_kept, turned}
 use Rattle.replay_core.proofs.lanes.tables.TablesStore.enter.Goals as goal

@@ -1,8 +1,6 @@
-use Rattle.std.specs.Prelude.{◌≡◌, ◌≤◌, length, sum_by}
-use Rattle.std.specs.List.{AllZip}
-use Rattle.std.proofs.Common.{subst, sym}
+use Rattle.std.proofs.Common.{◌≡◌, ◌≤◌, length, sum_by, subst, sym}
 use Rattle.std.proofs.lemmas.Result.{IfOk-weaker}
-use Rattle.d_types.specs.Typed.{meant_of}
+use Rattle.replay_core.specs.Vocabulary.{AllZip, meant_of}
 use Rattle.replay_core.proofs.TreeLemmas.{few_probes, trees_mean}
 use Rattle.replay_core.proofs.lanes.tree.TreeLanesLanes.selections.Goals as goal
 

@@ -1,14 +1,14 @@
 use Rattle.std.proofs.Common.{sym, ap, subst, ◌∙◌}
 use Rattle.std.proofs.Math.Logic.{∥∥₁_elim}
-use Rattle.d_values.specs.Storage.{Variables}
 use Rattle.numbered.specs.Texts.{Keeps}
 use Rattle.dif_codegen.specs.Meaning.{value_of}
 use Rattle.dif_machine.specs.Cells.{locals_in, own_in}
 use Rattle.dif_machine.proofs.Knowing.{Knows-prop}
 use Rattle.dif_machine.specs.Machine.{Knows, word_result}
+use Rattle.replay_core.specs.Vocabulary.{Variables}
 use Rattle.replay_core.specs.Evaluation.{Returns}
 use Rattle.replay_core.specs.WordStore.{WordsSeen, words_seen}
-use Rattle.replay_core.proofs.WordLemmas.{others_stay, returns_by, thread_stays, within_by}
+use Rattle.replay_core.proofs.WordLemmas.{evaluated, others_stay, thread_stays}
 use Rattle.replay_core.proofs.lanes.word_store.Words.run.Goals as goal
 
 pub run_on-run-requires : goal.run_on-run-requires
@@ -35,10 +35,11 @@ returns-clause-meets c =
     let memory = c.run_on-run.new.memory in
     let left : Variables = record { locals = locals_in texts memory.locals.items; own = own_in texts memory.table memory.thread } in
     subst (λ (w : WordsSeen). Returns (value_of f o (words_seen w).present) (word_result texts c.evaluated.result) left) c.self.view_is
-    (returns_by _ texts c.run_on-run.result c.evaluated.result left c.evaluated.ensures c.run_on-run.ensures.meant)
+    (evaluated _ texts c.run_on-run.result c.evaluated.result left c.evaluated.ensures c.run_on-run.ensures.meant c.run_on-run.ensures.run.within).0
 
 pub returns-clause-within : goal.returns-clause-within
-returns-clause-within c = within_by c.run_on-run.new.machine.texts c.run_on-run.result c.evaluated.result c.evaluated.ensures c.run_on-run.ensures.run.within
+returns-clause-within c =
+    (evaluated _ c.run_on-run.new.machine.texts c.run_on-run.result c.evaluated.result _ c.evaluated.ensures c.run_on-run.ensures.meant c.run_on-run.ensures.run.within).1
 
 pub returns-clause-kept : goal.returns-clause-kept
 returns-clause-kept c = subst (λ (w : WordsSeen). Keeps w.texts c.run_on-run.new.machine.texts) c.self.view_is c.run_on-run.ensures.run.kept

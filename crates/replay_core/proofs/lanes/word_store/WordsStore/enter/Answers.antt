@@ -1,9 +1,6 @@
-use Rattle.std.specs.Prelude.{◌≡◌, true}
-use Rattle.std.proofs.Common.{rules, sym, ap, subst, ◌∙◌}
+use Rattle.std.proofs.Common.{◌≡◌, true, rules, sym, ap, subst, ◌∙◌, SFits, w32}
 use Rattle.std.proofs.Math.Facts.{sfits_widen}
 use Rattle.std.proofs.lemmas.Int.{to_z-of_z}
-use mir.Val.{SFits}
-use mir.Syntax.{w32}
 use Rattle.dif_machine.specs.Cells.{locals_in}
 use Rattle.dif_machine.specs.Machine.{Knows}
 use Rattle.dif_machine.proofs.Knowing.{nothing_known}

@@ -1,6 +1,6 @@
 use Rattle.std.proofs.Common.{◌≡◌, ◌++◌, drop, map}
-use Rattle.d_types.specs.Expressions.{Has, with}
 use Rattle.dif_codegen.specs.Meaning.{values_of_objects}
+use Rattle.replay_core.specs.Vocabulary.{Has, with}
 use Rattle.replay_core.specs.Evaluation.{Stays, variables_in}
 use Rattle.replay_core.specs.WordStore.{words_seen}
 use Rattle.replay_core.proofs.statements.objects.TypedObjectExpression.evaluate_arguments.Given as goal

@@ -1,7 +1,5 @@
 use Rattle.std.proofs.Common.{◌≡◌, ◌++◌, drop, map}
-use Rattle.d_types.specs.Typed.{typeds_of}
-use Rattle.d_types.specs.Expressions.{Has, with}
-use Rattle.d_types.specs.Clauses.{values_of}
+use Rattle.replay_core.specs.Vocabulary.{typeds_of, Has, with, values_of}
 use Rattle.replay_core.specs.Evaluation.{Stays, variables_in}
 use Rattle.replay_core.specs.Forms.{expression_type}
 use Rattle.replay_core.specs.Threads.{tables_seen}

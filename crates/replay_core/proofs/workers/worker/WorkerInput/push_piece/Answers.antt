@@ -1,15 +1,12 @@
-use Rattle.std.proofs.Common.{rules, ◌≡◌, ◌<◌, ◌++◌, List, ℕ, Bool, All, arith, filter, length, refl, sym}
-use Rattle.std.proofs.Common.{ap, subst, ◌∙◌, append_assoc, append-nil, length-append, Contains, []}
-use Rattle.std.specs.Prelude.{ℤ}
+use Rattle.std.proofs.Common.{rules, ◌≡◌, ◌<◌, ◌++◌, List, ℕ, Bool, All, arith, filter, length}
+use Rattle.std.proofs.Common.{refl, sym, ap, subst, ◌∙◌, append_assoc, append-nil, length-append}
+use Rattle.std.proofs.Common.{Contains, [], ℤ}
 use Rattle.std.specs.Slice.Iter.{chunks_rest}
 use Rattle.std.proofs.lemmas.List.{length-map, nil_from_length}
 use Rattle.std.proofs.lemmas.List.Elements.{All-contains, All-contains_itself, All-weaker}
 use Rattle.std.proofs.lemmas.List.Elements.{Contains-append_left, Contains-append_right}
-use Rattle.firings.specs.declared.firing.Firing.{Firing}
-use Rattle.firings.specs.Ends.{with_ends}
-use Rattle.firings.specs.Firings.{number_of}
-use Rattle.shard_queue.specs.Groups.{grouping}
 use Rattle.shard_queue.specs.Groupings.{indices_of}
+use Rattle.replay_core.specs.Vocabulary.{Firing, with_ends, number_of, grouping}
 use Rattle.replay_core.specs.Groups.{is_group, of_group}
 use Rattle.replay_core.specs.Pieces.{IsPieceOf}
 use Rattle.replay_core.specs.Running.{IsLaneOf}

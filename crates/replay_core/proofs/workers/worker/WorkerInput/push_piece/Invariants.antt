@@ -1,8 +1,7 @@
 use Rattle.std.proofs.Common.{◌≡◌, ◌++◌, List, ℕ, filter}
 use Rattle.std.specs.Slice.Iter.{chunks_rest, chunks_size}
-use Rattle.d_types.specs.Typed.{ScriptMeant}
-use Rattle.firings.specs.Ends.{with_ends}
 use Rattle.shard_queue.specs.Groups.{indices}
+use Rattle.replay_core.specs.Vocabulary.{ScriptMeant, with_ends}
 use Rattle.replay_core.specs.Running.{IsLaneOf}
 use Rattle.replay_core.specs.Working.{is_in}
 use Rattle.replay_core.specs.Steps.Working.{firings_at}

@@ -1,10 +1,8 @@
-use Rattle.std.proofs.Common.{rules, ◌≡◌, ◌++◌, ◌∷◌, [], List, true, false, arith, filter, length, take}
-use Rattle.std.proofs.Common.{get_or, sym, ap, subst, ◌∙◌, append_assoc, length-append}
-use Rattle.std.specs.Prelude.{slice_index}
+use Rattle.std.proofs.Common.{rules, ◌≡◌, ◌++◌, ◌∷◌, [], List, true, false, arith, filter, length}
+use Rattle.std.proofs.Common.{take, get_or, sym, ap, subst, ◌∙◌, append_assoc, length-append}
+use Rattle.std.proofs.Common.{slice_index}
 use Rattle.std.proofs.lemmas.List.{get_or_default}
-use Rattle.d_types.specs.Typed.{ScriptMeant}
-use Rattle.firings.specs.declared.firing.Firing.{Firing}
-use Rattle.firings.specs.Ends.{with_ends}
+use Rattle.replay_core.specs.Vocabulary.{ScriptMeant, Firing, with_ends}
 use Rattle.replay_core.specs.Meaning.{history, numbers_of}
 use Rattle.replay_core.specs.Running.{IsLaneOf}
 use Rattle.replay_core.specs.Selecting.{AreFor}

@@ -1,6 +1,6 @@
 use Rattle.std.proofs.Common.{arith, ◌≡◌, ◌∙◌, ap}
-use Rattle.shard_queue.specs.Boards.{IsAt, IsNew}
 use Rattle.shard_queue.proofs.Lists.{all_tail, all_push}
+use Rattle.replay_core.specs.Vocabulary.{IsAt, IsNew}
 use Rattle.replay_core.proofs.workers.at_board.fn.in_threads.scope.Goals as goal
 
 pub loop-seat-preserved : goal.loop-seat-preserved

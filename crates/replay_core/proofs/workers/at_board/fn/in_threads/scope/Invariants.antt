@@ -1,5 +1,5 @@
 use Rattle.std.proofs.Common.{◌≡◌, ◌≤◌, ◌+◌, All, vec_len, vec_capacity}
-use Rattle.shard_queue.specs.Boards.{IsAt, IsNew}
+use Rattle.replay_core.specs.Vocabulary.{IsAt, IsNew}
 use Rattle.replay_core.proofs.workers.at_board.fn.in_threads.scope.Given as goal
 
 abbrev pub invariant-loop-seat : goal.invariant-loop-seat
