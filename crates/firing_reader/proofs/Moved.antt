@@ -11,9 +11,8 @@ use Rattle.firings.specs.declared.stored_row.Row.{Row}
 use Rattle.firings.specs.declared.unit.Owner.{Owner}
 use Rattle.firings.specs.declared.unit.Probe.{Probe}
 use Rattle.firings.specs.Stored.{AreIndices, Extends, IsRowIn, count_of, firing_in, moved_given}
-use Rattle.firing_reader.specs.Steps.Stored.{IsMovable}
+use Rattle.firing_reader.specs.Steps.Stored.{IsMovable, moved_row}
 use Rattle.firings.specs.Stored.{first_of, no_owner, no_probe}
-use Rattle.firing_reader.specs.Steps.Stored.{moved_row}
 use Rattle.firings.proofs.Placed.{as_many, placed}
 use Rattle.firings.proofs.Stored.{named_at, named_in, rows_more, seen_all}
 

@@ -1,24 +1,26 @@
 -- What the digits at the front of bytes write.
-use Rattle.std.proofs.Common.{zero, suc, get_or, take, ◌≡◌, ◌<◌, ◌≤◌, ◌+◌, ◌^◌, ℕ, ℤ, pos, neg_ℤ}
+use Rattle.std.proofs.Common.{get_or, ◌≡◌, ◌<◌, ◌≤◌, ◌+◌, ◌^◌, ℕ, ℤ, pos, neg_ℤ}
 use Rattle.std.proofs.Common.{◌-◌, List, [], ◌∷◌, length, Option, None, Some}
 use Rattle.std.proofs.Common.{refl, ap, ◌∙◌, arith, All, Bor}
 use Rattle.std.specs.Prelude.{IfSome}
-use Rattle.std.specs.Int.{IsInRange}
 use Rattle.std.specs.Str.Parse.{digits_value, AllDigits}
 use Rattle.std.proofs.lemmas.Bool.{ne_eqb}
 use Rattle.std.proofs.lemmas.Str.Parse.{digit_at, digits_value_short}
 use Rattle.std.proofs.lemmas.Str.{digit_value_digit}
-use Rattle.std.proofs.lemmas.List.Elements.{All-cons, All-nil, All-head, All-tail}
+use Rattle.std.proofs.lemmas.List.Elements.{All-cons, All-from_get_or, All-nil}
 use Rattle.firing_reader.proofs.Numerals.{all_read}
 use Rattle.firing_reader.specs.Column.{number_from, signed_of}
 use Rattle.firing_reader.specs.Steps.Plain.{BeginsWith, IsWordByte, JoinsField}
 
-pub digit_joins : (b : ℕ) → IsInRange 48 57 b → JoinsField b
-digit_joins b h = (λ e. absurd (omega (arith, h.0, h.1, e)), λ e. absurd (omega (arith, h.0, h.1, e)), λ e. absurd (omega (arith, h.0, h.1, e)), λ e. absurd (omega (arith, h.0, h.1, e)))
+-- a byte from the minus on
+word_joins : (b : ℕ) → 45 ≤ b → JoinsField b
+word_joins b le = (λ e. absurd (omega arith), λ e. absurd (omega arith), λ e. absurd (omega arith), λ e. absurd (omega arith))
 
 pub digits_join : (xs : List ℕ) → AllDigits 10 xs → All JoinsField xs
-digits_join [] all = All-nil JoinsField
-digits_join (c ∷ cs) all = All-cons JoinsField c cs (digit_joins c (digit_at (c ∷ cs) 0 all (omega arith))) (digits_join cs all.1)
+digits_join xs all = All-from_get_or JoinsField xs 0 (λ i within. word_joins (get_or xs i 0) (omega (arith, (digit_at xs i all within).0)))
+
+pub words_join : (xs : List ℕ) → All IsWordByte xs → All JoinsField xs
+words_join xs all = λ i d within. word_joins (get_or xs i d) (all i d within).0
 
 pub negative_read : (xs : List ℕ) (n : ℕ) → 0 < length xs → AllDigits 10 xs → n ≡ digits_value 10 xs → n ≤ 2 ^ 63 → signed_of (45 ∷ xs) ≡ Some (neg_ℤ (pos n))
 negative_read xs n some all value fits = rw (all_read xs n 0 (2 ^ 63) some all value (omega arith) fits) refl
@@ -35,7 +37,7 @@ digits_fit xs all few = digits_value_short (record { to = λ ds p. p; from = λ 
 
 -- one digit and what it writes
 pub one_joins : (d : ℕ) → d < 10 → All JoinsField ((48 + d) ∷ [])
-one_joins d lt = All-cons JoinsField (48 + d) [] (digit_joins (48 + d) (omega arith, omega arith)) (All-nil JoinsField)
+one_joins d lt = All-cons JoinsField (48 + d) [] (word_joins (48 + d) (omega arith)) (All-nil JoinsField)
 
 one_digits : (d : ℕ) → d < 10 → AllDigits 10 ((48 + d) ∷ [])
 one_digits d lt =
@@ -53,24 +55,9 @@ one_signed d lt = positive_read ((48 + d) ∷ []) d (one_digits d lt) (one_value
 pub one_whole : (d most : ℕ) → d < 10 → d ≤ most → number_from 0 most ((48 + d) ∷ []) ≡ Some d
 one_whole d most lt le = all_read ((48 + d) ∷ []) d 0 most (omega arith) (one_digits d lt) (one_value d lt) (omega arith) le
 
-minus_joins : JoinsField 45
-minus_joins = (λ e. absurd (omega (arith, e)), λ e. absurd (omega (arith, e)), λ e. absurd (omega (arith, e)), λ e. absurd (omega (arith, e)))
-
 -- a minus before what writes a size
 pub minus_more : (bytes rest : List ℕ) → bytes ≡ 45 ∷ rest → (o : Option (ℤ × Bor (List ℕ)))
     → IfSome o (λ p. (field : List ℕ) × BeginsWith rest field p.1.now × (signed_of (45 ∷ field) ≡ Some p.0))
     → IfSome o (λ p. (field : List ℕ) × BeginsWith bytes field p.1.now × (signed_of field ≡ Some p.0))
 minus_more bytes rest is None h = h
-minus_more bytes rest is (Some p) (field, fronts, read) = (45 ∷ field, record { split = is ∙ ap (λ (l : List ℕ). 45 ∷ l) fronts.split; plain = All-cons JoinsField 45 field minus_joins fronts.plain }, read)
-
-word_joins : (b : ℕ) → IsWordByte b → JoinsField b
-word_joins b h = (λ e. absurd (omega (arith, h.0, e)), λ e. absurd (omega (arith, h.0, e)), λ e. absurd (omega (arith, h.0, e)), λ e. absurd (omega (arith, h.0, e)))
-
-pub words_join : (xs : List ℕ) → All IsWordByte xs → All JoinsField xs
-words_join [] all = All-nil JoinsField
-words_join (b ∷ bs) all = All-cons JoinsField b bs (word_joins b (All-head IsWordByte b bs all)) (words_join bs (All-tail IsWordByte b bs all))
-
-pub words_push : (xs : List ℕ) (i : ℕ) → i < length xs → All IsWordByte (take i xs) → IsWordByte (get_or xs i 0) → All IsWordByte (take (suc i) xs)
-words_push [] i lt all p = absurd (omega arith)
-words_push (x ∷ xs) zero lt all p = All-cons IsWordByte x [] p (All-nil IsWordByte)
-words_push (x ∷ xs) (suc i) lt all p = All-cons IsWordByte x (take (suc i) xs) (All-head IsWordByte x (take i xs) all) (words_push xs i (omega arith) (All-tail IsWordByte x (take i xs) all) p)
+minus_more bytes rest is (Some p) (field, fronts, read) = (45 ∷ field, record { split = is ∙ ap (λ (l : List ℕ). 45 ∷ l) fronts.split; plain = All-cons JoinsField 45 field (word_joins 45 (omega arith)) fronts.plain }, read)

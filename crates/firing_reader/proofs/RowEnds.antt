@@ -2,7 +2,7 @@
 use Rattle.std.proofs.Common.{◌≡◌, ℕ, Bool, true, false, List, [], ◌∷◌, ◌++◌, Option, Some, None}
 use Rattle.std.proofs.Common.{refl, sym, ap, subst, ◌∙◌, append_assoc, inl, inr}
 use Rattle.std.specs.Prelude.{◌==◌, ◌||◌, if◌then◌else◌}
-use Rattle.std.proofs.lemmas.Bool.Decides.{eqb_tells}
+use Rattle.std.proofs.lemmas.Bool.{cond_both, Decides.eqb_tells}
 use Rattle.std.proofs.lemmas.List.{append-nil}
 use Rattle.csv.specs.Machine.{Read, ends_at_end, next_record}
 use Rattle.csv.specs.Reading.{default_config, records_next}
@@ -69,9 +69,8 @@ cr_same (c ∷ rest) = by (c == 13) (c == 10) refl refl
   where
     by : (y z : Bool) → (c == 13) ≡ y → (c == 10) ≡ z → next_record default_config st.AfterCr [] [] (c ∷ rest) ≡ next_record default_config st.StartRecord [] [] (c ∷ rest)
     by true true ey ez = rw (ey, ez) refl
-    by true false ey ez = rw (ey, ez) refl
     by false true ey ez = rw (ey, ez) refl
-    by false false ey ez = rw (ey, ez) refl
+    by y false ey ez = rw ez refl
 
 left_cr : (xs : List ℕ) → left st.AfterCr xs ≡ within st.StartRecord [] [] xs
 left_cr xs = left_within st.AfterCr xs refl ∙ ap (records_next left) (cr_same xs)
@@ -107,27 +106,21 @@ via s t fs f c place same h = record { front = h.front; fields = h.fields; field
 
 start_leads : (fs : List (List ℕ)) (f : List ℕ) (c : ℕ) → Leads st.StartField fs f c (place_after Start c)
 unfolding next_record
-start_leads fs f c = by (c == 34) refl
-  where
-    by : (q : Bool) → (c == 34) ≡ q → Leads st.StartField fs f c (if q then Quoted else plain_after c)
-    by true e = record { front = []; fields = fs; field = f; is_at = tt; goes_on = λ rest. rw e refl }
-    by false e = via st.StartField st.InField fs f c (plain_after c) (λ rest. rw e refl) (in_field_leads fs f c)
+start_leads fs f c = cond_both (c == 34) Quoted (plain_after c) (Leads st.StartField fs f c)
+    (λ e. record { front = []; fields = fs; field = f; is_at = tt; goes_on = λ rest. rw e refl })
+    (λ e. via st.StartField st.InField fs f c (plain_after c) (λ rest. rw e refl) (in_field_leads fs f c))
 
 quote_leads : (fs : List (List ℕ)) (f : List ℕ) (c : ℕ) → Leads st.AfterQuote fs f c (place_after Quote c)
 unfolding next_record
-quote_leads fs f c = by (c == 34) refl
-  where
-    by : (q : Bool) → (c == 34) ≡ q → Leads st.AfterQuote fs f c (if q then Quoted else plain_after c)
-    by true e = record { front = []; fields = fs; field = f ++ c ∷ []; is_at = tt; goes_on = λ rest. rw e refl }
-    by false e = via st.AfterQuote st.InField fs f c (plain_after c) (λ rest. rw e refl) (in_field_leads fs f c)
+quote_leads fs f c = cond_both (c == 34) Quoted (plain_after c) (Leads st.AfterQuote fs f c)
+    (λ e. record { front = []; fields = fs; field = f ++ c ∷ []; is_at = tt; goes_on = λ rest. rw e refl })
+    (λ e. via st.AfterQuote st.InField fs f c (plain_after c) (λ rest. rw e refl) (in_field_leads fs f c))
 
 quoted_leads : (fs : List (List ℕ)) (f : List ℕ) (c : ℕ) → Leads st.InQuoted fs f c (place_after Quoted c)
 unfolding next_record
-quoted_leads fs f c = by (c == 34) refl
-  where
-    by : (q : Bool) → (c == 34) ≡ q → Leads st.InQuoted fs f c (if q then Quote else Quoted)
-    by true e = record { front = []; fields = fs; field = f; is_at = tt; goes_on = λ rest. rw e refl }
-    by false e = record { front = []; fields = fs; field = f ++ c ∷ []; is_at = tt; goes_on = λ rest. rw e refl }
+quoted_leads fs f c = cond_both (c == 34) Quote Quoted (Leads st.InQuoted fs f c)
+    (λ e. record { front = []; fields = fs; field = f; is_at = tt; goes_on = λ rest. rw e refl })
+    (λ e. record { front = []; fields = fs; field = f ++ c ∷ []; is_at = tt; goes_on = λ rest. rw e refl })
 
 -- an end of a line between two records
 blank : (c : ℕ) → ((rest : List ℕ) → within st.StartRecord [] [] (c ∷ rest) ≡ within st.StartRecord [] [] rest) → Leads st.StartRecord [] [] c Between

@@ -6,9 +6,8 @@ use Rattle.firings.specs.declared.firing.Firing.{Firing}
 use Rattle.firings.specs.declared.stored_row.Row.{Row}
 use Rattle.firings.specs.declared.unit.Owner.{Owner}
 use Rattle.firings.specs.declared.unit.Probe.{Probe}
-use Rattle.firing_reader.specs.Plain.{Passes, ReadsOwner, ReadsProbe}
+use Rattle.firing_reader.specs.Plain.{Passes, ReadsOwner, ReadsProbe, IsEnd, ReadsRow}
 use Rattle.firing_reader.specs.Steps.Plain.{BeginsRow, BeginsWith, JoinsField, ReadsArguments}
-use Rattle.firing_reader.specs.Plain.{IsEnd, ReadsRow}
 use Rattle.firing_reader.specs.Column.{Whole, number_from, value_of}
 use Rattle.firings.specs.Stored.{Extends, IsGivenIn, IsRowIn, firing_in, given_in, no_owner}
 use Rattle.firings.specs.Stored.{no_probe}
@@ -22,34 +21,11 @@ use Rattle.firings.proofs.Stored.{named_at, named_in, rows_more, stored}
 -- the owner at an index, and the probe at one
 owner_there : (os : List Owner) (p : ℕ) (o : Owner) (b r : List ℕ) → slice_get os p ≡ Some o → ReadsOwner b r o
     → ReadsOwner b r (record { thread = (get_or os p no_owner).thread; pid = (get_or os p no_owner).pid; execname = (get_or os p no_owner).execname })
-owner_there os p o b r there h =
-    let is = named_at os p o no_owner there in
-    record {
-      x3 = h.x3;
-      x4 = h.x4;
-      x5 = h.x5;
-      passes = h.passes;
-      is_thread = rw is h.is_thread;
-      is_pid = rw is h.is_pid;
-      is_execname = rw is h.is_execname;
-    }
+owner_there os p o b r there h = rw (named_at os p o no_owner there) h
 
 probe_there : (ps : List Probe) (p : ℕ) (q : Probe) (b r : List ℕ) → slice_get ps p ≡ Some q → ReadsProbe b r q
     → ReadsProbe b r (record { provider = (get_or ps p no_probe).provider; probemod = (get_or ps p no_probe).probemod; probefunc = (get_or ps p no_probe).probefunc; name = (get_or ps p no_probe).name })
-probe_there ps p q b r there h =
-    let is = named_at ps p q no_probe there in
-    record {
-      x7 = h.x7;
-      x8 = h.x8;
-      x9 = h.x9;
-      x10 = h.x10;
-      passes = h.passes;
-      is_provider = rw is h.is_provider;
-      is_probemod = rw is h.is_probemod;
-      is_probefunc = rw is h.is_probefunc;
-      is_name = rw is h.is_name;
-      unreserved = rw is h.unreserved;
-    }
+probe_there ps p q b r there h = rw (named_at ps p q no_probe there) h
 
 -- ends of rows, and then a number
 pub begins_row : (bytes line rest : List ℕ) (number : ℕ) → (ends : List ℕ) × (bytes ≡ ends ++ line) × All IsEnd ends → (first : ℕ) × (more : List ℕ) × (line ≡ first ∷ more) × JoinsField first

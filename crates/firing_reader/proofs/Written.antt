@@ -1,14 +1,13 @@
 -- What reads as a trace is what writes one.
-use Rattle.std.proofs.Common.{◌≡◌, ◌≢◌, ◌≤◌, ◌<◌, ◌+◌, ◌-◌, ◌^◌, ℕ, zero, suc, List, [], ◌∷◌, length, map}
-use Rattle.std.proofs.Common.{Bool, true, false, cond, Some, Ok, Err, refl, sym, ap, ◌∙◌, arith, inl, inr}
+use Rattle.std.proofs.Common.{◌≡◌, ◌≢◌, ◌≤◌, ◌<◌, ◌+◌, ◌-◌, ◌^◌, ℕ, zero, List, [], ◌∷◌, length, map}
+use Rattle.std.proofs.Common.{Bool, true, false, cond, Some, Ok, Err, refl, sym, ap, ◌∙◌, arith}
 use Rattle.std.specs.Prelude.{◌≤ℤ◌, ◌↔◌, ◌==◌, ℤ, pos, codes, Contains, IfSome, option_map, slice_get}
 use Rattle.std.specs.List.{AllZip, AllByRecursion, list_any}
 use Rattle.std.specs.List.Sorted.{IsStrictlyIncreasing}
 use Rattle.std.specs.Str.{bytes_eq}
-use Rattle.std.proofs.lemmas.Bool.{cases_Bool, le-leb}
-use Rattle.std.proofs.lemmas.Bool.Decides.{eqb_tells}
+use Rattle.std.proofs.lemmas.Bool.{eqb-true, false_from_ne_true, le-leb}
 use Rattle.std.proofs.lemmas.Int.{ints}
-use Rattle.std.proofs.lemmas.List.Elements.{recursion_from_All}
+use Rattle.std.proofs.lemmas.List.{Elements.recursion_from_All, Folds.Any-from_list_any}
 use Rattle.std.proofs.lemmas.Slice.Eq.{bytes_eq-Decides}
 use Rattle.csv.specs.Reading.{records, default_config, strip_bom}
 use Rattle.firings.specs.declared.firing.Firing.{Firing}
@@ -40,21 +39,13 @@ int_taken least z bytes e low high =
     rw (decimal, value, le-leb least k (omega (arith, ints)), le-leb k (2 ^ 31 - 1) (omega (arith, ints)), is) refl
 
 zero_found : (bytes : List ℕ) → list_any (λ b. b == 0) bytes ≡ true → Contains bytes 0
-zero_found [] e = absurd cc
-zero_found (b ∷ bs) e = elim (eqb_tells b 0) [
-  | inl same ↦ (zero, omega arith, same.1)
-  | inr other ↦
-      let later : list_any (λ b. b == 0) bs ≡ true = rw other.0 at e in
-      let found = zero_found bs later in
-      (suc found.0, omega (arith, found.1), found.2)
-]
+zero_found bytes e =
+    let (k, x, within, here, is) = Any-from_list_any (λ b. b == 0) bytes e in
+    (k, within, rw (eqb-true x 0 is) at here)
 
 text_taken : (bytes text : List ℕ) → text ≡ bytes → IsText text → value_of Words bytes ≡ Some (pos 0)
 text_taken bytes text same is =
-    let none : list_any (λ b. b == 0) text ≡ false = elim (cases_Bool (list_any (λ b. b == 0) text)) [
-      | inl some ↦ absurd (is.no_zero (zero_found text some))
-      | inr none ↦ none
-    ] in
+    let none : list_any (λ b. b == 0) text ≡ false = false_from_ne_true _ (λ some. is.no_zero (zero_found text some)) in
     rw (← same, some_text text is.short (sym none) is.utf8) refl
 
 numbers_are : (fields : List (List ℕ)) (f : Firing) → IsRowOf fields f → IsFiring f → AreNumbers fields columns (numbers_of f)
@@ -74,10 +65,7 @@ numbers_are fields f a is = rw (
 -- ---- it is read
 
 unreserved : (provider : List ℕ) → provider ≢ codes "dtrace" → bytes_eq provider (codes "dtrace") ≡ false
-unreserved provider other = elim (cases_Bool (bytes_eq provider (codes "dtrace"))) [
-  | inl is ↦ absurd (other ((bytes_eq-Decides provider (codes "dtrace")).0 is))
-  | inr is ↦ is
-]
+unreserved provider other = false_from_ne_true _ (λ is. other ((bytes_eq-Decides provider (codes "dtrace")).0 is))
 
 next_taken : (row last : ℕ) (fields : List (List ℕ)) (f : Firing) → WritesFiring fields f → IsFiring f → row ≤ 1_000_000 → last < f.number → next_of row last fields ≡ Ok f
 next_taken row last fields f w is few up =
