@@ -58,10 +58,10 @@ told_long first count u long = λ judged rest is.
 
 -- what the first bytes tell is taken
 pub taken_of : (first script trace : List ℕ) (t : Input) → Tells first script trace → IsJudged script t.script
-    → ((rest : List ℕ) → reads t.trace rest ≡ trace_of (trace ++ rest)) → HasTaken None [] (Some t) first
+    → OnOk t.script ((rest : List ℕ) → reads t.trace rest ≡ trace_of (trace ++ rest)) → HasTaken None [] (Some t) first
 taken_of first script trace t tells judged read = λ rest.
     let (script', trace', divides, is, more) = tells t.script rest judged in
-    record { script = script'; trace = trace'; splits = divides; is_judged = is; read = on_ok_weaker t.script (λ same. read rest ∙ ap trace_of (sym same)) more }
+    record { script = script'; trace = trace'; splits = divides; is_judged = is; read = on_ok_both t.script _ _ _ (λ all same. all rest ∙ ap trace_of (sym same)) read more }
 
 -- the block has all that has come, and may tell the script
 pub block_goes : (block all : List ℕ) (o put told : Option Input) (bytes : List ℕ) → o ≡ None → put ≡ told → all ≡ block ++ bytes
@@ -84,7 +84,7 @@ whole_known first t o is apart bytes had =
 
 -- the end tells it
 pub whole_told : {E : Type 0} (r : Result Input E) (first script trace : List ℕ) (o : Option Input) → o ≡ None → Divides first script trace → IfOk r (λ t. IsJudged script t.script)
-    → IfOk r (λ t. (rest : List ℕ) → reads t.trace rest ≡ trace_of (trace ++ rest))
+    → IfOk r (λ t. OnOk t.script ((rest : List ℕ) → reads t.trace rest ≡ trace_of (trace ++ rest)))
     → IfOk r (λ t. (apart : Option (List ℕ)) (bytes : List ℕ) → HasTaken apart first o bytes → IsTakenApart apart bytes t [])
 whole_told (Err e) first script trace o none divides judged read = tt
 whole_told (Ok t) first script trace o none divides judged read = λ apart bytes had.
@@ -94,9 +94,9 @@ whole_told (Ok t) first script trace o none divides judged read = λ apart bytes
       trace = trace;
       splits = subst (λ b. Divides b script trace) h.1 divides;
       is_judged = judged;
-      read = on_ok_any t.script _ (read [] ∙ ap trace_of (append-nil trace));
+      read = on_ok_weaker t.script (λ all. all [] ∙ ap trace_of (append-nil trace)) read;
     })
 
 -- the trace of a script that comes apart, from its start on
-pub begun_apart : (script : List ℕ) (t : Input) → IsJudged script t.script → ((rest : List ℕ) → reads t.trace rest ≡ trace_of rest) → HasTaken (Some script) [] (Some t) []
-begun_apart script t judged read = λ rest. record { script = script; trace = rest; splits = (refl, refl); is_judged = judged; read = on_ok_any t.script _ (read rest) }
+pub begun_apart : (script : List ℕ) (t : Input) → IsJudged script t.script → OnOk t.script ((rest : List ℕ) → reads t.trace rest ≡ trace_of rest) → HasTaken (Some script) [] (Some t) []
+begun_apart script t judged read = λ rest. record { script = script; trace = rest; splits = (refl, refl); is_judged = judged; read = on_ok_weaker t.script (λ all. all rest) read }

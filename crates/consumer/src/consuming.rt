@@ -1,13 +1,11 @@
 //! From the bytes in to the bytes out.
 
-ghost use Rattle.std.specs.Prelude.{◌≡◌, ◌≢◌, [], List, ℕ, Err, IfErr, IsFalse, OnOk};
+ghost use Rattle.std.specs.Prelude.{◌≡◌, ◌≢◌, Err, IfErr, IsFalse};
 ghost use Rattle.consumer.specs.Consuming.{IsConsumed, WritesAnswer, WritesBundle, WritesOut};
 ghost use Rattle.consumer.specs.Consuming.{fault_of_reading};
-ghost use Rattle.consumer.specs.{Replaying.IsReplay, Steps.Judging.IsJudged};
-ghost use Rattle.consumer.specs.Vocabulary.{Memory, Refused, reads, trace_of};
+ghost use Rattle.consumer.specs.Vocabulary.{Memory, Refused};
 
 use crate::consumer::Consumer;
-use crate::intake::{Input, Intake};
 use crate::plan::{Plan, Replayed};
 use crate::refusal::Refusal;
 use replay_core::{Layout, OpenGate};
@@ -74,7 +72,7 @@ impl<'a, R: Threads + Wait + Sync, L: Layout> Consumer<'a, R, L> {
             (S.seen sink.old) (S.seen sink.new) result) }
     {
         let input = self.intake(plan).read_from(feed, None)?;
-        write_out(self.answer(input, plan), sink)
+        write_out(self.answer(input, plan, &OpenGate), sink)
     }
 
     /// Reads a trace to its end, runs the script over it, writes what the script shows and flushes
@@ -101,38 +99,7 @@ impl<'a, R: Threads + Wait + Sync, L: Layout> Consumer<'a, R, L> {
         let intake = self.intake(plan);
         let begun = intake.begun(script, &[])?;
         let input = intake.read_from(feed, Some(begun))?;
-        write_out(self.answer(input, plan), sink)
-    }
-
-    // How the input of a run is taken.
-    fn intake(&self, plan: &Plan) -> Intake<'_, R> {
-        Intake {
-            rt: self.rt,
-            alloc: self.alloc,
-            workers: plan.workers,
-            hash_key: self.hash_key,
-        }
-    }
-
-    // The answer of a script over its trace.
-    fn answer(&self, input: Input, plan: &Plan) -> Result<Replayed, Refusal>
-        ensures { (script trace : List ℕ) → IsJudged script input.script
-            → OnOk input.script (reads input.trace [] ≡ trace_of trace)
-            → IsReplay L.shows script trace plan.now result }
-    {
-        let Input { script, trace } = input;
-        match script {
-            Ok(script) => {
-                let read = trace.finish(self.rt);
-                let answer = self.replay_read(&script, read, plan, &OpenGate);
-                drop(script);
-                answer
-            }
-            Err(refusal) => {
-                drop(trace);
-                Err(refusal)
-            }
-        }
+        write_out(self.answer(input, plan, &OpenGate), sink)
     }
 }
 

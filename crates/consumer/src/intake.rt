@@ -187,15 +187,19 @@ impl<'a, R: Threads + Sync> Intake<'a, R> {
         }
     }
 
-    /// Takes the trace of a script, of which the first bytes have come.
+    /// Takes the trace of a script, of which the first bytes have come. They aren't read if the
+    /// script is refused.
     pub(crate) fn begun(&self, script: &[u8], first: &[u8]) -> Result<Input, AllocError>
         ensures judged { IfOk result (λ t. IsJudged script.now t.script) }
-        ensures trace { IfOk result
-            (λ t. (rest : List ℕ) → reads t.trace rest ≡ trace_of (first.now ++ rest)) }
+        ensures trace { IfOk result (λ t. OnOk t.script
+            ((rest : List ℕ) → reads t.trace rest ≡ trace_of (first.now ++ rest))) }
     {
         let least = if self.workers < 2 { 1 } else { MIN_SHARED };
         let mut trace = Reader::new(self.alloc, self.hash_key, self.workers, least)?;
         let script = judge(self.alloc, script);
+        if script.is_err() {
+            return Ok(Input { script, trace });
+        }
         match trace.take(self.rt, first) {
             Ok(()) => Ok(Input { script, trace }),
             Err(e) => {

@@ -1,25 +1,25 @@
 //! The answer of a script over a trace.
 
-ghost use Rattle.std.specs.Prelude.{◌≡◌, ℕ, IfErr, IfOk, List, option_map, unwrap_or};
+ghost use Rattle.std.specs.Prelude.{◌≡◌, [], ℕ, IfErr, IfOk, List, OnOk, option_map, unwrap_or};
 ghost use Rattle.firing_reader.specs.{Gives.Gives};
 ghost use Rattle.shard_queue.specs.{Groups.AreOf, Groups.grouping, Threads.run_threads};
 ghost use Rattle.replay_core.specs.{Exit.firings_over, Working.IsReady};
 ghost use Rattle.consumer.specs.{Answer.HasOutput, Scripts.IsAccepted};
 ghost use Rattle.consumer.specs.Vocabulary.{Firing, Grouping, Plan, ScriptMeant, functions_in};
-ghost use Rattle.consumer.specs.Vocabulary.{functions_of, trace_of, typed_script_of};
+ghost use Rattle.consumer.specs.Vocabulary.{functions_of, reads, trace_of, typed_script_of};
 ghost use Rattle.consumer.specs.{Plans.IsGroupedBy};
 ghost use Rattle.consumer.specs.Replaying.{IsAnswered, IsCarriedOut, IsRefusalUnder, IsReplay};
 ghost use Rattle.consumer.specs.Replaying.{IsRunUnder, output_of};
-ghost use Rattle.consumer.specs.Steps.Replaying.{IsRunBy};
+ghost use Rattle.consumer.specs.Steps.{Judging.IsJudged, Replaying.IsRunBy};
 
 use crate::consumer::Consumer;
 use crate::grouping::groups_of;
+use crate::intake::{Input, Intake};
 use crate::plan::{EngineKind, Plan, Replayed};
 use crate::refusal::Refusal;
-use crate::scripts::judge;
 use d_types::TypedScript;
 use dif_codegen::compile;
-use firing_reader::{TraceFault, read_trace_by};
+use firing_reader::TraceFault;
 use firings::Trace;
 use replay_core::{DifLanes, Gate, Lanes, Layout, OpenGate, TreeLanes, Whole, run_all};
 use shard_queue::Groups;
@@ -66,16 +66,48 @@ impl<'a, R: Threads + Wait + Sync, L: Layout> Consumer<'a, R, L> {
     ) -> Result<Replayed, Refusal>
         ensures { IsReplay L.shows script.now trace.now plan.now result }
     {
-        let alloc = self.alloc;
-        let script = judge(alloc, script)?;
-        let read = read_trace_by(self.rt, alloc, self.hash_key, trace, plan.workers);
-        let replayed = self.replay_read(&script, read, plan, gate);
-        drop(script);
-        replayed
+        let input = self.intake(plan).begun(script, trace)?;
+        self.answer(input, plan, gate)
     }
 
-    /// Replays a script that was accepted over what was read of its trace.
-    pub(crate) fn replay_read<G: Gate + Sync>(
+    /// How the input of a run is taken.
+    pub(crate) fn intake(&self, plan: &Plan) -> Intake<'_, R> {
+        Intake {
+            rt: self.rt,
+            alloc: self.alloc,
+            workers: plan.workers,
+            hash_key: self.hash_key,
+        }
+    }
+
+    /// The answer of a script over its trace.
+    pub(crate) fn answer<G: Gate + Sync>(
+        &self,
+        input: Input,
+        plan: &Plan,
+        gate: &G,
+    ) -> Result<Replayed, Refusal>
+        ensures { (script trace : List ℕ) → IsJudged script input.script
+            → OnOk input.script (reads input.trace [] ≡ trace_of trace)
+            → IsReplay L.shows script trace plan.now result }
+    {
+        let Input { script, trace } = input;
+        match script {
+            Ok(script) => {
+                let read = trace.finish(self.rt);
+                let answer = self.replay_read(&script, read, plan, gate);
+                drop(script);
+                answer
+            }
+            Err(refusal) => {
+                drop(trace);
+                Err(refusal)
+            }
+        }
+    }
+
+    // Replays a script that was accepted over what was read of its trace.
+    fn replay_read<G: Gate + Sync>(
         &self,
         script: &TypedScript,
         read: Result<Trace, TraceFault>,

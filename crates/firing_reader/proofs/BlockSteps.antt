@@ -1,7 +1,8 @@
 -- What a step of reading blocks does.
 use Rattle.std.proofs.Common.{◌≡◌, ◌≢◌, ◌<◌, ◌≤◌, ◌+◌, ◌-◌, ℕ, Bool, true, false, List, []}
 use Rattle.std.proofs.Common.{◌∷◌, ◌++◌, length, take, drop, Some, Ok, Err, refl, sym, ap, ◌∙◌}
-use Rattle.std.proofs.Common.{append_assoc, arith, add-one, cond, inl, inr, length-append, length-drop}
+use Rattle.std.proofs.Common.{append_assoc, append-nil, arith, add-one, cond, inl, inr, length-append}
+use Rattle.std.proofs.Common.{drop-drop, length-drop}
 use Rattle.std.proofs.lemmas.List.{length-take-le, take-append-drop, take_at}
 use Rattle.csv.specs.Reading.{default_config, is_bom, records, strip_bom}
 use Rattle.csv.specs.declared.parser.State.TheVariants as st
@@ -15,15 +16,15 @@ use Rattle.firing_reader.specs.Blocks.{AreRead, Taken}
 use Rattle.firing_reader.specs.Pieces.{GoesOn}
 use Rattle.firing_reader.specs.Steps.Blocks.{Begins, IsFaultOf, IsReadBy}
 use Rattle.firing_reader.specs.Left.{left_in}
-use Rattle.firing_reader.specs.Plain.{rows_after, rows_in}
+use Rattle.firing_reader.specs.Plain.{BeginsAtEnd, rows_after, rows_in}
 use Rattle.firing_reader.specs.Steps.RowEnds.{RowsEnd}
 use Rattle.firing_reader.specs.Gives.{GivesBy}
 use Rattle.firings.specs.Firings.{IsTrace}
 use Rattle.firing_reader.specs.Trace.{trace_in, trace_of}
 use Rattle.firing_reader.proofs.Kept.{is_trace, rows_trace}
 use Rattle.firing_reader.proofs.PlainRows.{all_read, ends_after_end, fault_chunk, goes_both}
-use Rattle.firing_reader.proofs.PlainRows.{goes_chunk}
-use Rattle.firing_reader.proofs.PlainRows.{goes_feed, goes_reads, goes_rows, skip_feed}
+use Rattle.firing_reader.proofs.PlainRows.{goes_chunk, goes_feed, goes_reads, goes_rows, skip_end}
+use Rattle.firing_reader.proofs.PlainRows.{skip_feed}
 use Rattle.firing_reader.proofs.Rows.{trace_err, trace_ok, trace_rows}
 
 -- ---- rows
@@ -104,6 +105,17 @@ begins_csv x text end fs cut read =
       goes_on = λ tail. ap trace_in (cut.all tail) ∙ trace_ok (left text) (left (drop end x ++ tail)) fs own ∙ ap (rows_after fs) (sym (skip_feed (drop end x ++ tail)));
     }
 
+-- all of the bytes, from the end of the header's row on
+pub begins_all : (x : List ℕ) (fs : List Firing) (end : ℕ) → Begins x fs (10 ∷ drop (end + 1) x) → BeginsAtEnd (drop end x) → trace_of x ≡ rows_in fs (drop end x)
+begins_all x fs end h (b, after, is, ends) =
+    let own : after ≡ drop (end + 1) x = ap (drop 1) (sym is) ∙ drop-drop 1 end x in
+    rw (append-nil, append-nil) at (h.goes_on []) ∙ ap (rows_after fs) (skip_feed (drop (end + 1) x) ∙ ap left (sym own) ∙ sym (skip_end b after ends)) ∙ ap (rows_in fs) (sym is)
+
+-- a fault, whatever comes after the bytes, is that of the bytes
+pub last_fault : (e : TraceFault) (read : List ℕ → Result (List Firing) TraceFault) (bytes : List ℕ) → IsFaultOf e (λ tail. read (bytes ++ tail)) → (e ≡ Memory) ⊎ (read bytes ≡ Err e)
+last_fault e read bytes (inl memory) = inl memory
+last_fault e read bytes (inr fault) = inr (sym (ap read (append-nil bytes)) ∙ fault [])
+
 pub fault_of_header : (x text : List ℕ) (end : ℕ) (f : TraceFault) → IsCut x end text → (f ≡ Memory) ⊎ ((trace_of (take end x) ≡ Err f) × (records default_config (strip_bom (take end x)) ≢ []))
     → IsFaultOf f (λ tail. trace_of (x ++ tail))
 fault_of_header x text end f cut (inl memory) = inl memory
@@ -122,6 +134,10 @@ same_left (Err e) s fs x y refused = ap (with_left s fs) refused
 
 pub begins_then : (x : List ℕ) (fs : List Firing) (y : List ℕ) (gs : List Firing) (z : List ℕ) → Begins x fs y → GoesOn fs y gs z → (tail : List ℕ) → rows_in gs (z ++ tail) ≡ trace_of (x ++ tail)
 begins_then x fs y gs z h g tail = sym (h.goes_on tail ∙ goes_reads fs y gs z g tail)
+
+pub begins_fault : (x : List ℕ) (fs : List Firing) (y : List ℕ) (e : TraceFault) → Begins x fs y → IsFaultOf e (λ tail. rows_in fs (y ++ tail)) → IsFaultOf e (λ tail. trace_of (x ++ tail))
+begins_fault x fs y e h (inl memory) = inl memory
+begins_fault x fs y e h (inr fault) = inr (λ tail. h.goes_on tail ∙ fault tail)
 
 pub begins_rows : (x : List ℕ) (fs : List Firing) (y : List ℕ) (gs : List Firing) (z : List ℕ) → Begins x fs y → GoesOn fs y gs z → AreRead gs
 begins_rows x fs y gs z h g = goes_rows fs y gs z g h.are_read

@@ -16,7 +16,7 @@ use Rattle.firing_reader.specs.Left.{left_in}
 use Rattle.firing_reader.specs.Blocks.{AreRead}
 use Rattle.firing_reader.specs.Plain.{rows_after, rows_in}
 use Rattle.firing_reader.specs.Pieces.{GoesOn}
-use Rattle.firing_reader.specs.Steps.Plain.{Closes, BeginsWith, JoinsField}
+use Rattle.firing_reader.specs.Steps.Plain.{Closes, BeginsWith, JoinsField, Leaves}
 use Rattle.firing_reader.specs.Plain.{BeginsAtEnd, IsEnd, Passes, ReadsRow, state_after}
 use Rattle.firing_reader.specs.Steps.RowEnds.{RowsEnd}
 use Rattle.firings.specs.Firings.{last_number}
@@ -159,16 +159,6 @@ goes_both a x b y c z g h = record {
   read = after_ok a g.rows h.rows b g.read ∙ h.read;
   taken = λ tail. g.taken tail ∙ ap (λ (l : List (List (List ℕ))). g.rows ++ l) (h.taken tail) ∙ sym (append_assoc g.rows h.rows (left_in st.StartRecord (Some (z ++ tail))));
 }
-
--- the rest is the end of a row, and then the last of the bytes, after at least one of them
-pub record Leaves (bytes rest : List ℕ) : Type 0 where
-  pub first : ℕ
-  pub front : List ℕ
-  pub end : ℕ
-  pub after : List ℕ
-  pub is_bytes : bytes ≡ first ∷ (front ++ after)
-  pub is_rest : rest ≡ end ∷ after
-  pub ends : IsEnd end
 
 pub leaves_first : (bytes : List ℕ) → BeginsAtEnd bytes → Leaves bytes bytes
 leaves_first bytes (end, after, is, ends) = record { first = end; front = []; end = end; after = after; is_bytes = is; is_rest = is; ends = ends }

@@ -4,7 +4,8 @@ use Rattle.std.proofs.Common.{drop, refl, sym, ap, ◌∙◌, append_assoc, arit
 use Rattle.std.proofs.Math.Seq.{drop-append-add, drop-length}
 use Rattle.firings.specs.declared.firing.Firing.{Firing}
 use Rattle.firing_reader.specs.Pieces.{AreCut, GoesOn, PassesRows}
-use Rattle.firing_reader.proofs.PlainRows.{Leaves, goes_both, goes_end}
+use Rattle.firing_reader.specs.Steps.Plain.{Leaves}
+use Rattle.firing_reader.proofs.PlainRows.{goes_both, goes_end}
 
 -- ---- where rows were read up to an index
 

@@ -19,7 +19,7 @@ use Rattle.firing_reader.specs.Steps.Blocks.{IsFaultOf, IsReadBy}
 use Rattle.firing_reader.specs.Steps.Pieces.{Adds, IsAdded}
 use Rattle.firings.specs.Firings.{last_number, number_of}
 use Rattle.firing_reader.specs.Trace.{rows_of}
-use Rattle.firing_reader.proofs.BlockSteps.{read_after}
+use Rattle.firing_reader.proofs.BlockSteps.{last_fault, read_after}
 use Rattle.firing_reader.proofs.PlainRows.{goes_first}
 use Rattle.firing_reader.proofs.Rows.{rows_first}
 use Rattle.firing_reader.proofs.SharedRows.{goes_more, passes_on}
@@ -86,10 +86,6 @@ pub adds_goes : (old : List Firing) (w : List ℕ) (new : List Firing) (rest lef
 adds_goes old [] new rest left (same, none) = rw (same, none) (goes_first old left)
 adds_goes old (b ∷ w) new rest left (goes, begins) = rw (unread_feed rest left begins) (goes_more old (b ∷ w) new rest (drop 1 left) goes)
 
-last_fault : (e : TraceFault) (old : List Firing) (bytes : List ℕ) → IsFaultOf e (λ tail. rows_in old (bytes ++ tail)) → (e ≡ Memory) ⊎ (rows_in old bytes ≡ Err e)
-last_fault e old bytes (inl memory) = inl memory
-last_fault e old bytes (inr fault) = inr (sym (ap (rows_in old) (append-nil bytes)) ∙ fault [])
-
 -- a fault of what waits, whatever is left
 pub fault_waiting : (e : TraceFault) (old : List Firing) (w left : List ℕ) → IsFaultOf e (λ tail. rows_in old (w ++ tail)) → IsFaultOf e (λ tail. rows_in old (unread w left ++ tail))
 fault_waiting e old w left (inl memory) = inl memory
@@ -98,7 +94,7 @@ fault_waiting e old (b ∷ w) left (inr fault) = inr (λ tail. ap (λ (l : List 
 
 -- the same, with nothing more to come
 pub fault_last : (e : TraceFault) (old : List Firing) (w left : List ℕ) → IsFaultOf e (λ tail. rows_in old (w ++ tail)) → (e ≡ Memory) ⊎ (rows_in old (unread w left) ≡ Err e)
-fault_last e old w left h = last_fault e old (unread w left) (fault_waiting e old w left h)
+fault_last e old w left h = last_fault e (rows_in old) (unread w left) (fault_waiting e old w left h)
 
 -- what was left waits, and nothing else does
 pub keeps_left : (w left : List ℕ) → length w ≤ 1 → Leads w → BeginsAtFeed left → unread w left ≡ unread left (10 ∷ [])

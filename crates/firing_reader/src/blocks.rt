@@ -1,24 +1,20 @@
 //! Reading a trace that comes in blocks.
 
 ghost use Rattle.std.specs.Prelude.{◌≡◌, ◌≢◌, ◌<◌, ◌≤◌, ◌+◌, ◌++◌, ◌∷◌, [], ℕ, List, OnOk, OnErr};
-ghost use Rattle.std.specs.Prelude.{IfOk, IfErr, MatchBool, length, true};
+ghost use Rattle.std.specs.Prelude.{IfOk, IfErr, length};
 ghost use Rattle.firing_reader.specs.{Vocabulary.Memory, Gives.Gives, Gives.GivesBy};
 ghost use Rattle.firings.specs.Firings.{IsTrace};
 ghost use Rattle.firing_reader.specs.Trace.{trace_of};
 ghost use Rattle.firing_reader.specs.Blocks.{BeginsAtFeed};
-ghost use Rattle.firing_reader.specs.Steps.Blocks.{Begins, IsFaultOf, IsReadBy};
+ghost use Rattle.firing_reader.specs.Steps.Blocks.{IsFaultOf, IsReadBy};
 ghost use Rattle.firing_reader.specs.Blocks.{reads, reads_at};
 ghost use Rattle.firing_reader.specs.Plain.{rows_in};
 ghost use Rattle.firing_reader.specs.Pieces.{AreWaiting, IsKept, unread};
 ghost use Rattle.firing_reader.specs.declared.blocks.Stage.TheVariants.{Refused, Rows};
 
-use crate::builder::FiringsBuilder;
 use crate::fault::TraceFault;
-use crate::header::{MARK, MIN_HEADER, after_mark};
-use crate::plain::front::{ends_at, is_end};
-use crate::plain::read_plain;
-use crate::reading::{read_by_csv, read_records, read_whole};
-use crate::row_ends::end_of_rows;
+use crate::plain::front::is_end;
+use crate::reading::{read_header, read_rest, read_whole};
 use crate::waiting::{Progress, add_waiting, give_back, keep_waiting, read_pieces};
 use crate::whole_rows::{keep_from, read_rows};
 use firings::Trace;
@@ -28,7 +24,7 @@ use std::marker::Model;
 use std::mem::swap;
 use std::thread::Threads;
 
-// How many bytes of a trace in memory are read at a time.
+// The most bytes of a long block that are taken at a time, as those that are not read yet are kept.
 const BLOCK: usize = 1 << 22;
 
 // What a reader reads next.
@@ -96,16 +92,32 @@ impl Reader {
         })
     }
 
-    /// Takes the next block. If memory is refused, the reader can only return that.
+    /// Takes the next block, a long one in parts. If memory is refused, the reader can only return
+    /// that.
     pub fn take<R: Threads>(&mut self, rt: &R, block: &[u8]) -> Result<(), AllocError>
         ensures taken { OnOk result
             ((rest : List ℕ) → reads self.new rest ≡ reads self.old (block.now ++ rest)) }
         ensures refused { OnErr result (self.new.stage ≡ Refused Memory) }
     {
+        let mut left = block;
+        while left.len() > BLOCK {
+            let (part, rest) = left.split_at(BLOCK);
+            self.take_part(rt, part)?;
+            left = rest;
+        }
+        self.take_part(rt, left)
+    }
+
+    // Takes the next bytes, and keeps a copy of them until they are read.
+    fn take_part<R: Threads>(&mut self, rt: &R, bytes: &[u8]) -> Result<(), AllocError>
+        ensures taken { OnOk result
+            ((rest : List ℕ) → reads self.new rest ≡ reads self.old (bytes.now ++ rest)) }
+        ensures refused { OnErr result (self.new.stage ≡ Refused Memory) }
+    {
         if let Stage::Refused(_) = self.stage {
             return Ok(());
         }
-        if self.progress.left.extend_from_slice(block).is_err() {
+        if self.progress.left.extend_from_slice(bytes).is_err() {
             return refuse(&mut self.stage, &mut self.progress, TraceFault::Memory);
         }
         self.read(rt)
@@ -194,31 +206,6 @@ impl Reader {
     }
 }
 
-/// Reads a trace as `read_trace` does, by all workers where its rows are plain. If no thread can
-/// be started, one worker reads what another would have read.
-///
-/// ```text
-/// let trace = read_trace_by(&rt, alloc, hash_key, &bytes, 4)?; // that of `read_trace`
-/// ```
-pub fn read_trace_by<R: Threads>(
-    rt: &R,
-    alloc: Global,
-    hash_key: HashKey,
-    bytes: &[u8],
-    workers: u32,
-) -> Result<Trace, TraceFault>
-    ensures { Gives result (trace_of bytes.now) }
-{
-    let mut reader = Reader::new(alloc, hash_key, workers, BLOCK)?;
-    let mut left = bytes;
-    while !left.is_empty() {
-        let (block, rest) = left.split_at(left.len().min(BLOCK));
-        reader.take(rt, block)?;
-        left = rest;
-    }
-    reader.finish(rt)
-}
-
 // How many bytes there are up to the last one that ends a row, and with it; all of them if there
 // is none.
 fn after_last_end(bytes: &[u8]) -> usize
@@ -265,30 +252,6 @@ fn refuse(stage: &mut Stage, progress: &mut Progress, fault: TraceFault) -> Resu
     }
 }
 
-// Reads the header, after empty lines. Returns false if it isn't whole yet.
-fn read_header(firings: &mut FiringsBuilder, left: &mut Vec<u8>) -> Result<bool, TraceFault>
-    requires { firings.old ≡ [] }
-    ensures found { IfOk result (λ found. MatchBool found
-        (Begins left.old.items firings.new left.new.items)
-        ((firings.new ≡ []) × (left.new.items ≡ left.old.items))) }
-    ensures fault { IfErr result (λ e. IsFaultOf e (λ tail. trace_of (left.old.items ++ tail))) }
-{
-    if left.len() <= MIN_HEADER {
-        return Ok(false);
-    }
-    let text = after_mark(left);
-    let enough = ends_at(text).saturating_add(MIN_HEADER);
-    let end = left.len() - text.len() + end_of_rows(text, enough);
-    if end <= MARK.len() {
-        return Ok(false);
-    }
-    if !read_records(firings, &left[..end])? {
-        return Ok(false);
-    }
-    keep_from(left, end - 1);
-    Ok(true)
-}
-
 // Reads the rows that are whole by all workers. They wait, and this thread adds those that waited.
 fn read_rows_by<R: Threads>(rt: &R, progress: &mut Progress) -> Result<(), TraceFault>
     requires { IsKept Rows progress.old }
@@ -331,9 +294,10 @@ fn advance<R: Threads>(rt: &R, stage: Stage, progress: &mut Progress) -> Result<
 {
     match stage {
         Stage::Header => {
-            if !read_header(&mut progress.firings, &mut progress.left)? {
+            let Some(end) = read_header(&mut progress.firings, &progress.left)? else {
                 return Ok(stage);
-            }
+            };
+            keep_from(&mut progress.left, end);
             read_rows_by(rt, progress)?;
             Ok(Stage::Rows)
         }
@@ -353,9 +317,7 @@ fn read_last_rows(progress: &mut Progress) -> Result<(), TraceFault>
 {
     add_waiting(&mut progress.firings, &mut progress.waiting)?;
     give_back(&mut progress.waiting, &mut progress.left)?;
-    let passed = read_plain(&mut progress.firings, &progress.left);
-    keep_from(&mut progress.left, passed);
-    read_by_csv(&mut progress.firings, &progress.left)
+    read_rest(&mut progress.firings, &progress.left)
 }
 
 // Reads all that is left, after the last block.

@@ -26,7 +26,7 @@ mod unit_table;
 mod waiting;
 mod whole_rows;
 
-pub use blocks::{Reader, read_trace_by};
+pub use blocks::Reader;
 pub use fault::TraceFault;
 pub use firings::{
     Args, Firing, FiringRows, Firings, MAX_ROWS, MAX_TEXT, MAX_TOGETHER, OwnerIndices, Probe,

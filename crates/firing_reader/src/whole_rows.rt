@@ -7,7 +7,7 @@ ghost use Rattle.firing_reader.specs.{Steps.Blocks.IsReadBy};
 use crate::builder::FiringsBuilder;
 use crate::fault::TraceFault;
 use crate::plain::read_plain;
-use crate::reading::read_by_csv;
+use crate::reading::read_rest;
 use crate::row_ends::end_of_rows;
 
 /// Reads the rows that are whole: plain ones where they lie, from the first other one on by csv.
@@ -20,7 +20,7 @@ pub(crate) fn read_rows(firings: &mut FiringsBuilder, left: &mut Vec<u8>) -> Res
     keep_from(left, passed);
     let end = end_of_rows(&left[1..], usize::MAX);
     if end > 0 {
-        read_by_csv(firings, &left[..end + 1])?;
+        read_rest(firings, &left[..end + 1])?;
         keep_from(left, end);
     }
     Ok(())

@@ -60,7 +60,7 @@ impl HashKey {
     ///
     /// ```text
     /// let hash_key = HashKey::random(&rt);
-    /// let trace = read_trace_by(&rt, alloc, hash_key, &bytes, 4)?;
+    /// let mut reader = Reader::new(alloc, hash_key, 4, 1 << 22)?;
     /// ```
     pub fn random(source: &impl RandomSource) -> HashKey
         ensures { (seed : List ℕ) × (result ≡ key_of seed) }

@@ -1,9 +1,10 @@
-//! Random traces, each read in every way: in one pass, by csv alone, and in pieces.
+//! Random traces, each read in every way: by one worker, by csv alone, and in pieces.
 
 ghost use Rattle.std.specs.Prelude.{◌≤◌};
 
 use crate::traces::{HEADER, add_number, is_read, is_same, is_same_by_csv, whole_trace};
-use firing_reader::{read_trace, read_trace_by};
+use firing_reader::{Reader, TraceFault, read_trace};
+use firings::Trace;
 use keyed_hash::HashKey;
 use std::alloc::{AllocError, Global};
 use std::ops::Range;
@@ -182,7 +183,10 @@ pub(crate) fn drawn_trace(alloc: Global, seed: u64) -> Result<Vec<u8>, AllocErro
 // Whether a drawn trace is read as csv alone reads it.
 fn is_drawn_as_by_csv(alloc: Global, seed: u64) -> Result<bool, AllocError> {
     let bytes = drawn_trace(alloc, seed)?;
-    is_same_by_csv(alloc, &bytes)
+    match bytes.strip_prefix(HEADER) {
+        Some(rows) => is_same_by_csv(alloc, rows),
+        None => Ok(false),
+    }
 }
 
 #[test]
@@ -194,7 +198,19 @@ fn drawn_traces_read_as_by_csv_alone(rt: HostRuntime) -> Result<(), Fail> {
     Ok(())
 }
 
-// Whether a trace is read the same by as many workers as this, and by one.
+// What as many workers as this read of a trace that a reader is given at once.
+fn read_by<R: Threads + RandomSource>(
+    rt: &R,
+    alloc: Global,
+    bytes: &[u8],
+    workers: u32,
+) -> Result<Trace, TraceFault> {
+    let mut reader = Reader::new(alloc, HashKey::random(rt), workers, 1)?;
+    reader.take(rt, bytes)?;
+    reader.finish(rt)
+}
+
+// Whether a trace is read the same by as many workers as this, and by `read_trace`.
 fn is_same_by<R: Threads + Sync + RandomSource>(
     rt: &R,
     alloc: Global,
@@ -202,7 +218,7 @@ fn is_same_by<R: Threads + Sync + RandomSource>(
     workers: u32,
 ) -> bool {
     let alone = read_trace(alloc, bytes);
-    let parted = read_trace_by(rt, alloc, HashKey::random(rt), bytes, workers);
+    let parted = read_by(rt, alloc, bytes, workers);
     is_same(&alone, &parted)
 }
 

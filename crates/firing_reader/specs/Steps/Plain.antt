@@ -67,3 +67,13 @@ pub record ReadsArguments (bytes rest : List ℕ) (args : List ℤ) : Type 0 whe
   pub closes : Closes bytes (x0 ∷ x1 ∷ x2 ∷ x3 ∷ x4 ∷ x5 ∷ x6 ∷ x7 ∷ x8 ∷ x9 ∷ []) rest
   pub values : map signed_of (x0 ∷ x1 ∷ x2 ∷ x3 ∷ x4 ∷ x5 ∷ x6 ∷ x7 ∷ x8 ∷ x9 ∷ [])
       ≡ map (λ a. Some a) args
+
+-- the rest is the end of a row, and then the last of the bytes, after at least one of them
+pub record Leaves (bytes rest : List ℕ) : Type 0 where
+  pub first : ℕ
+  pub front : List ℕ
+  pub end : ℕ
+  pub after : List ℕ
+  pub is_bytes : bytes ≡ first ∷ (front ++ after)
+  pub is_rest : rest ≡ end ∷ after
+  pub ends : IsEnd end

@@ -1,24 +1,5 @@
-use Rattle.std.proofs.Common.{arith, length-append, ◌∷◌, []}
-use Rattle.firing_reader.proofs.PlainRows.{goes_first, goes_row, leaves_first, leaves_row}
 use Rattle.firing_reader.proofs.SharedRows.{passes_alone}
 use Rattle.firing_reader.proofs.plain.read_plain.Goals as goal
 
-pub loop-init : goal.loop-init
-loop-init c = record { begins = c.requires; left = leaves_first _ c.requires; read = goes_first _ _; few = omega (arith, c.len-counter.ensures) }
-
-pub loop-preserved : goal.loop-preserved
-loop-preserved c =
-    let (f, pushed, row, rises) = c.in-Some.ensures in
-    let more = length-append c.loop.firings (f ∷ []) in
-    record {
-      begins = (row.end, row.after, row.is_rest, row.ends);
-      left = leaves_row c.args.bytes.now c.loop.rest.now f c.in-Some.after.now c.loop.invariant.left row;
-      read = rw pushed (goes_row c.args.firings.now c.args.bytes.now c.loop.firings c.loop.rest.now f c.in-Some.after.now row rises (omega arith) c.loop.invariant.read);
-      few = rw pushed (omega arith);
-    }
-
-pub returns-in_default : goal.returns-in_default
-returns-in_default c = rw c.in_default.ensures (passes_alone c.args.firings.now c.args.bytes.now c.loop.firings c.loop.rest.now c.loop.invariant.left c.loop.invariant.read)
-
 pub returns : goal.returns
-returns c = passes_alone c.args.firings.now c.args.bytes.now c.loop.firings c.loop.rest.now c.loop.invariant.left c.loop.invariant.read
+returns c = passes_alone _ _ _ _ c.take_plain.ensures.left c.take_plain.ensures.read

@@ -3,7 +3,7 @@ use Rattle.firing_reader.specs.Steps.Left.{IsBetween, records_left}
 use Rattle.firing_reader.specs.Plain.{rows_after, with_front}
 use Rattle.firings.specs.Firings.{last_number}
 use Rattle.firing_reader.specs.Trace.{rows_of}
-use Rattle.firing_reader.proofs.reading.read_rows.Given as goal
+use Rattle.firing_reader.proofs.reading.read_by_csv.Given as goal
 
 abbrev pub invariant-loop-row : goal.invariant-loop-row
 invariant-loop-row l = record {
