@@ -20,6 +20,8 @@ OF_RT = "checked edited edits_of must_fail read_edit unread free need processors
 # one `without_keeping` stands in.
 OF_KEEPING = "Kept linked listing stamp_of AT_LIMIT REFUSED".split()
 USED = "rattle-last-used"
+# What the prover adds to the name of a folder of kept work for that of its suggestions.
+OFFERS = ["-offers", "-with-holes-offers"]
 # What rt's library has: a crate's files, the crates below a folder and their locks, layouts, the
 # program that proves, and the folders of a crate. A crate of it has `below`, `build_rlib`, `count`,
 # `folder`, `is_built`, `is_program`, `name`, `run` and `words`. The program that proves names a
@@ -59,6 +61,16 @@ def listing(folder):
     its work last is none of them."""
     found = [f"{at}/{name}" for at, _, names in os.walk(folder) for name in names if name != USED]
     return {it: (os.stat(it).st_ino, os.stat(it).st_mtime_ns) for it in found}
+
+
+def keep_no_offers(kept):
+    """Has the prover find no room for suggestions in this folder of kept work: where it would make
+    a folder for them stands a file."""
+    for name in os.listdir(kept):
+        if not name.endswith("-offers"):
+            for place in [f"{kept}/{name}{it}" for it in OFFERS]:
+                shutil.rmtree(place, ignore_errors=True)
+                open(place, "a", encoding="utf-8").close()
 
 
 def without_keeping(rt):
