@@ -22,7 +22,7 @@ pub(crate) fn lasting_with(texts: &Texts, lasting: usize, word: Word, key: &[Wor
 }
 
 // If a word or one of a key is the number of a text that doesn't last.
-#[cold]
+#[inline(never)]
 fn is_one_made(word: Word, key: &[Word], lasting: usize) -> bool
     ensures { IsFalse result → (texts : List (List ℕ)) → All (IsWithin texts) (word ∷ key.now)
         → lasting ≤ length texts → All (IsWithin (take lasting texts)) (word ∷ key.now) }

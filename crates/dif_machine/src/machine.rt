@@ -25,6 +25,7 @@ use firings::Firing;
 use keyed_hash::HashKey;
 use numbered::{Texts, Tuple, Word};
 use std::alloc::{AllocError, Global};
+use std::hash::{BuildHasher, Hasher};
 use std::marker::Model;
 
 // The first register is 0, and no other is set.
@@ -80,7 +81,7 @@ impl Machine {
             alloc,
             registers: FIRST,
             comparison: None,
-            tuple: Tuple::new(),
+            tuple: Tuple::new(hash_key.build_hasher().finish()),
             texts,
             lasting: 1,
             numbers: [None; 5],
@@ -317,7 +318,7 @@ impl Machine {
     {
         match variable {
             Variable::Local(x) => memory.load_local(&mut self.texts, x),
-            Variable::Scalar(x) => memory.load_own(&mut self.texts, x, &Tuple::new()),
+            Variable::Scalar(x) => memory.load_own(&mut self.texts, x, &Tuple::new(0)),
             Variable::Element(x) => memory.load_own(&mut self.texts, x, &self.tuple),
         }
     }
@@ -367,7 +368,7 @@ impl Machine {
             }
             Variable::Scalar(x) => {
                 self.lasting = lasting_with(&self.texts, self.lasting, word, &[]);
-                memory.store_own(&self.texts, x, &Tuple::new(), word)
+                memory.store_own(&self.texts, x, &Tuple::new(0), word)
             }
             Variable::Element(x) => {
                 let key = self.tuple.words();

@@ -46,6 +46,8 @@ impl Slot {
 #[derive(Drop)]
 pub struct IndexCache {
     slots: Vec<Slot>,
+    // One less than there are slots: their number is a power of 2.
+    mask: usize,
 }
 
 impl IndexCache {
@@ -53,13 +55,14 @@ impl IndexCache {
     pub fn new(alloc: Global) -> IndexCache {
         IndexCache {
             slots: Vec::new(alloc),
+            mask: 0,
         }
     }
 
     // The index of the slot that is `step` after the first for a hash.
     #[inline(always)]
     fn near(&self, hash: u64, step: usize) -> usize {
-        (hash as usize).wrapping_add(step) & self.slots.len().saturating_sub(1)
+        (hash as usize).wrapping_add(step) & self.mask
     }
 
     /// The index that was put for this hash, or 0.
@@ -119,6 +122,7 @@ impl IndexCache {
         let alloc = *self.slots.allocator();
         let slots = self.slots.len().saturating_mul(2).max(MIN_SLOTS);
         if let Ok(slots) = vec![in alloc; Slot::EMPTY; slots] {
+            self.mask = slots.len() - 1;
             let old = replace(&mut self.slots, slots);
             for there in old.as_slice() {
                 self.put_near(*there);

@@ -12,7 +12,11 @@ pub struct Tuple {
     words: [Word; 8],
     len: usize,
     shape: u64,
+    hash: u64,
+    secret: u64,
 }
+
+const MULTIPLIER: u64 = 0x9e37_79b9_7f4a_7c15;
 
 impl Model for Tuple {
     ghost use Rattle.std.specs.Prelude.{◌≡◌, ◌≤◌, List, take};
@@ -27,20 +31,22 @@ impl Model for Tuple {
 }
 
 impl Tuple {
-    /// No words.
+    /// No words. The hash of words begins at this secret.
     ///
     /// ```text
-    /// let mut tuple = Tuple::new();
+    /// let mut tuple = Tuple::new(0);
     /// tuple.push(Word::Int(7));
     /// tuple.words(); // [Word::Int(7)]
     /// ```
-    pub fn new() -> Tuple
+    pub fn new(secret: u64) -> Tuple
         ensures { result ≡ [] }
     {
         Tuple {
             words: [Word::Int(0); 8],
             len: 0,
             shape: 1,
+            hash: secret,
+            secret,
         }
     }
 
@@ -56,6 +62,7 @@ impl Tuple {
     {
         self.len = 0;
         self.shape = 1;
+        self.hash = self.secret;
     }
 
     /// Adds a word at the right.
@@ -71,6 +78,7 @@ impl Tuple {
         self.words[self.len] = word;
         self.len += 1;
         self.shape = 2 * self.shape + digit(word);
+        self.hash = (self.hash ^ word.bits()).wrapping_mul(MULTIPLIER);
     }
 
     /// The words.
@@ -97,6 +105,12 @@ impl Tuple {
         ensures small { result < 512 }
     {
         self.shape
+    }
+
+    /// A hash of the words.
+    #[inline(always)]
+    pub(crate) fn hash(&self) -> u64 {
+        self.hash
     }
 }
 

@@ -1,9 +1,9 @@
 //! Tables of words.
 
-ghost use Rattle.std.specs.Prelude.{◌≡◌, ◌==◌, [], ℕ, List, None, Some, true, not};
+ghost use Rattle.std.specs.Prelude.{◌≡◌, ◌==◌, [], ℕ, List, Some, true, not};
 ghost use Rattle.indexmap.specs.IndexMap.{Updates};
-ghost use Rattle.numbered.specs.Tables.{SetsWord, entry_in, key_of, same_words, word_in};
-ghost use Rattle.numbered.specs.Indices.{IsAt, IsFound};
+ghost use Rattle.numbered.specs.Tables.{SetsWord, key_of, same_words, word_in};
+ghost use Rattle.numbered.specs.Indices.{IsAt};
 
 use crate::index_cache::IndexCache;
 use crate::kept_key::KeptKey;
@@ -22,32 +22,14 @@ const MULTIPLIER: u64 = 0x9e37_79b9_7f4a_7c15;
 
 type Map = IndexMap<KeptKey, u64, HashKey>;
 
-// Where entries were found.
-#[derive(Drop)]
-struct Found {
-    cache: IndexCache,
-    secret: u64,
-}
-
-impl Found {
-    // A hash of a key.
-    #[inline(always)]
-    fn hash(&self, first: u64, second: u64, words: &[Word]) -> u64 {
-        let mut hash = (self.secret ^ first).wrapping_mul(MULTIPLIER);
-        hash = (hash ^ second).wrapping_mul(MULTIPLIER);
-        for word in words {
-            hash = (hash ^ word.bits()).wrapping_mul(MULTIPLIER);
-        }
-        hash >> 32
-    }
-}
-
 /// A table to a word, 0 for a key that was never set. A key is two words and those of a tuple, of
 /// which the kinds don't count.
 #[derive(Drop)]
 pub struct WordTable {
     map: Map,
-    found: Found,
+    // Where entries were found.
+    cache: IndexCache,
+    secret: u64,
     // At this number of entries those of 0 are left out.
     limit: usize,
 }
@@ -65,17 +47,15 @@ impl WordTable {
     ///
     /// ```text
     /// let mut table = WordTable::new(alloc, HashKey::random(&rt));
-    /// table.get(0, 0, &Tuple::new()); // 0
+    /// table.get(0, 0, &Tuple::new(0)); // 0
     /// ```
     pub fn new(alloc: Global, hash_key: HashKey) -> WordTable
         ensures { result ≡ [] }
     {
         WordTable {
             map: IndexMap::with_hasher(alloc, hash_key),
-            found: Found {
-                cache: IndexCache::new(alloc),
-                secret: hash_key.build_hasher().finish(),
-            },
+            cache: IndexCache::new(alloc),
+            secret: hash_key.build_hasher().finish(),
             limit: MIN_LIMIT,
         }
     }
@@ -91,7 +71,27 @@ impl WordTable {
         ensures value { result ≡ word_in self.old (key_of first second tuple.now) }
         ensures same { self.new ≡ self.old }
     {
-        read(&self.map, &mut self.found, first, second, tuple)
+        let hash = self.hash(first, second, tuple);
+        if let Some((key, word)) = self.map.get_index(self.cache.get(hash)) {
+            if key.is(first, second, tuple) {
+                return *word;
+            }
+        }
+        self.get_by_hash(&KeptKey::of(first, second, tuple), hash)
+    }
+
+    // The word of a key that the cache doesn't have.
+    #[cold]
+    fn get_by_hash(&mut self, key: &KeptKey, hash: u64) -> u64
+        ensures value { result ≡ word_in self.old key.now }
+        ensures same { self.new ≡ self.old }
+    {
+        let Some((index, _, word)) = self.map.get_full(key) else {
+            return 0;
+        };
+        let word = *word;
+        self.cache.put(hash, index);
+        word
     }
 
     /// Sets the word of a key.
@@ -110,68 +110,33 @@ impl WordTable {
     ) -> Result<(), AllocError>
         ensures { SetsWord self.old (key_of first second tuple.now) word result self.new }
     {
-        match find(&self.map, &mut self.found, first, second, tuple) {
-            Some(index) => {
-                put(&mut self.map, index, word);
-                Ok(())
-            }
-            None => self.start(first, second, tuple, word),
-        }
-    }
-
-    // Sets the word of a key that has no entry.
-    #[cold]
-    fn start(&mut self, first: u64, second: u64, tuple: &Tuple, word: u64) -> Result<(), AllocError>
-        requires { entry_in self.old (key_of first second tuple.now) ≡ None }
-        ensures { SetsWord self.old (key_of first second tuple.now) word result self.new }
-    {
-        if word == 0 {
+        let hash = self.hash(first, second, tuple);
+        let index = self.cache.get(hash);
+        if is_at(&self.map, index, first, second, tuple) {
+            put(&mut self.map, index, word);
             return Ok(());
         }
+        self.set_by_hash(KeptKey::of(first, second, tuple), word, hash)
+    }
+
+    // Sets the word of a key that the cache doesn't have.
+    #[cold]
+    fn set_by_hash(&mut self, key: KeptKey, word: u64, hash: u64) -> Result<(), AllocError>
+        ensures { SetsWord self.old key word result self.new }
+    {
         make_room(&mut self.map, &mut self.limit);
-        let index = self.map.len();
-        self.map.insert(KeptKey::of(first, second, tuple), word)?;
-        let hash = self.found.hash(first, second, tuple.words());
-        self.found.cache.put(hash, index);
+        let (index, _) = self.map.insert_full(key, word)?;
+        self.cache.put(hash, index);
         Ok(())
     }
-}
 
-// The word of a key.
-#[inline(always)]
-fn read(map: &Map, found: &mut Found, first: u64, second: u64, tuple: &Tuple) -> u64
-    ensures { result ≡ word_in map.now.entries (key_of first second tuple.now) }
-{
-    let Some(index) = find(map, found, first, second, tuple) else {
-        return 0;
-    };
-    match map.get_index(index) {
-        Some((_, word)) => *word,
-        None => 0,
+    // A hash of a key.
+    #[inline(always)]
+    fn hash(&self, first: u64, second: u64, tuple: &Tuple) -> u64 {
+        let hash = (self.secret ^ first).wrapping_mul(MULTIPLIER);
+        let hash = (hash ^ second).wrapping_mul(MULTIPLIER);
+        (hash ^ tuple.hash()).wrapping_mul(MULTIPLIER) >> 32
     }
-}
-
-// The index of a key's entry.
-#[inline(always)]
-fn find(map: &Map, found: &mut Found, first: u64, second: u64, tuple: &Tuple) -> Option<usize>
-    ensures { IsFound same_words map.now.entries (key_of first second tuple.now) result }
-{
-    let hash = found.hash(first, second, tuple.words());
-    let index = found.cache.get(hash);
-    if is_at(map, index, first, second, tuple) {
-        return Some(index);
-    }
-    find_by_hash(map, found, &KeptKey::of(first, second, tuple), hash)
-}
-
-// Where the map has a key that the cache doesn't have.
-#[cold]
-fn find_by_hash(map: &Map, found: &mut Found, key: &KeptKey, hash: u64) -> Option<usize>
-    ensures { IsFound same_words map.now.entries key.now result }
-{
-    let (index, _, _) = map.get_full(key)?;
-    found.cache.put(hash, index);
-    Some(index)
 }
 
 // Whether the key's entry has this index.
