@@ -99,6 +99,21 @@ impl Slot {
         if let Some(entries) = &mut self.entries {
             return entries.add_words(made, arg);
         }
+        self.start(alloc, hash_key, made, arg)
+    }
+
+    // Takes the first argument, for the key that these words make.
+    #[inline(never)]
+    fn start(
+        &mut self,
+        alloc: Global,
+        hash_key: HashKey,
+        made: WordKey<'_>,
+        arg: i64,
+    ) -> Result<(), AllocError>
+        requires { count_of self.old < 2 ^ 52 }
+        ensures { Adds self.old self.new (key_made made.entry) arg result }
+    {
         let key = key_in_room(alloc, Key::new(alloc), made)?;
         self.add(alloc, hash_key, &key, arg)
     }
