@@ -1,4 +1,6 @@
 -- When a frame has what is known before an instruction.
+-- Source: Cantrill, Shapiro and Leventhal, "Dynamic Instrumentation of Production Systems" (USENIX
+-- 2004), on DIF.
 use Rattle.std.specs.Prelude.{◌≡◌, ◌≢◌, List, Option, Some, None, length, true}
 use Rattle.dif_validate.specs.declared.shape.Shape.{Shape}
 use Rattle.dif_machine.specs.Vocabulary.{Kind, Reg, at, Value, kind_of}

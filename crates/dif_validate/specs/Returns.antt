@@ -1,4 +1,6 @@
 -- The kind that an object returns.
+-- Source: Cantrill, Shapiro and Leventhal, "Dynamic Instrumentation of Production Systems" (USENIX
+-- 2004), on DIF.
 use Rattle.std.specs.Prelude.{ℕ, zero, suc, List, Option, Some, None, slice_get, length}
 use Rattle.std.specs.Option.{option_or}
 use Rattle.dif_validate.specs.Vocabulary.{Flow, Next, Jump, Either, End, Instr, Kind, Object, Shape}
