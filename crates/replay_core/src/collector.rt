@@ -4,7 +4,7 @@ pub(crate) mod merge;
 pub(crate) mod placing;
 pub(crate) mod whole;
 
-ghost use Rattle.std.specs.Prelude.{◌≡◌, ◌<◌, map, length, IfOk, IfErr};
+ghost use Rattle.std.specs.Prelude.{◌≡◌, ◌<◌, ◌++◌, ◌∷◌, [], map, length, IfOk, IfErr, OnOk};
 ghost use Rattle.replay_core.specs.Collecting.{IsCollected, IsCollectFault, IsMadeOf};
 ghost use Rattle.replay_core.specs.{Collecting.tables_of, Tables.CanMerge, Vocabulary.flat_map};
 ghost use Rattle.replay_core.specs.Uniting.{sooner, first_exit};
@@ -87,18 +87,33 @@ fn contents_of(alloc: Global, pieces: Vec<Piece>) -> Result<Contents, AllocError
         exit: None,
     };
     for piece in pieces {
-        let Piece {
-            mut events,
-            table,
-            taken,
-            exit,
-        } = piece;
-        contents.events.append(&mut events)?;
-        contents.tables.push(table)?;
-        contents.ran.push(taken)?;
-        contents.exit = sooner(contents.exit, exit);
+        add(&mut contents, piece)?;
     }
     Ok(contents)
+}
+
+// Adds what a piece has.
+fn add(contents: &mut Contents, piece: Piece) -> Result<(), AllocError>
+    ensures events { OnOk result (contents.new.events.items
+        ≡ contents.old.events.items ++ piece.events.items) }
+    ensures tables { OnOk result (contents.new.tables.items
+        ≡ contents.old.tables.items ++ piece.table ∷ []) }
+    ensures ran { OnOk result (contents.new.ran.items
+        ≡ contents.old.ran.items ++ piece.taken ∷ []) }
+    ensures exit { OnOk result (contents.new.exit ≡ sooner contents.old.exit piece.exit) }
+{
+    let Piece {
+        mut events,
+        table,
+        taken,
+        exit,
+        ..
+    } = piece;
+    contents.events.append(&mut events)?;
+    contents.tables.push(table)?;
+    contents.ran.push(taken)?;
+    contents.exit = sooner(contents.exit, exit);
+    Ok(())
 }
 
 // The exit with the lesser number.

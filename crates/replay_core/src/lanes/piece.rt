@@ -7,6 +7,7 @@ use aggregations::{AggFn, AggTable};
 use d_values::Text;
 use itoa::Buffer;
 use keyed_hash::HashKey;
+use numbered::Word;
 use std::alloc::{AllocError, Global};
 
 /// What a lane's firings made.
@@ -20,6 +21,8 @@ pub struct Piece {
     pub(crate) taken: Vec<u64>,
     // The number of the first that exited, and its status.
     pub(crate) exit: Option<(u64, u8)>,
+    // The words of the key that was made last, for their room.
+    pub(crate) key: Vec<Word>,
     ghost noted: { All (λ event. ∥ Contains taken.items event.0 ∥₁) events.items },
 }
 
@@ -42,6 +45,7 @@ impl Piece {
             table,
             taken: Vec::new(alloc),
             exit: None,
+            key: Vec::new(alloc),
         })
     }
 

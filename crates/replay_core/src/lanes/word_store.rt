@@ -1,6 +1,6 @@
 //! Variables and texts as words.
 
-ghost use Rattle.std.specs.Prelude.{◌≡◌, [], IfOk};
+ghost use Rattle.std.specs.Prelude.{◌≡◌, IfOk};
 ghost use Rattle.numbered.specs.Texts.{Keeps};
 ghost use Rattle.dif_codegen.specs.Meaning as spec;
 ghost use Rattle.dif_machine.specs.Machine.{IsWithin, Knows, word_result};
@@ -16,7 +16,6 @@ use keyed_hash::HashKey;
 use numbered::Word;
 use std::alloc::{AllocError, Global};
 use std::marker::Model;
-use std::mem::replace;
 
 /// The machine that runs objects and numbers texts, and the tables in which it finds variables.
 #[derive(Drop)]
@@ -25,8 +24,6 @@ pub struct Words {
     memory: LaneMemory,
     // The thread whose variables the machine finds.
     thread: i32,
-    // The key that was made last, for its room.
-    room: Vec<Word>,
 }
 
 impl Model for Words {
@@ -67,7 +64,6 @@ impl Store for Words {
             machine,
             memory,
             thread: 0,
-            room: Vec::new(alloc),
         })
     }
 
@@ -96,26 +92,6 @@ impl Words {
     {
         let run = object.run_on(firing, &mut self.machine, &mut self.memory);
         evaluated(run)
-    }
-
-    /// Takes an empty list for the words of a key.
-    #[inline(always)]
-    pub(crate) fn take_key(&mut self) -> Vec<Word>
-        ensures key { result.items ≡ [] }
-        ensures same { self.new ≡ self.old }
-    {
-        let alloc = *self.room.allocator();
-        let mut key = replace(&mut self.room, Vec::new(alloc));
-        key.clear();
-        key
-    }
-
-    /// Keeps a list for the next key.
-    #[inline(always)]
-    pub(crate) fn keep_key(&mut self, key: Vec<Word>)
-        ensures { self.new ≡ self.old }
-    {
-        self.room = key;
     }
 
     /// The machine, which has the texts of words.

@@ -108,16 +108,15 @@ fn aggregate(
         (λ f. effect_by (spec.by_objects f) (typed.Aggregate index keys.now argument.now))
         result state.old state.new piece.old piece.new }
 {
-    let mut key = state.store.take_key();
-    let hash = run_for_key(keys, &mut key, state)?;
+    piece.key.clear();
+    let hash = run_for_key(keys, &mut piece.key, state)?;
     let given = run_for_argument(argument, state)?;
     let made = WordKey {
         texts: state.store.machine().texts(),
-        words: &key,
+        words: &piece.key,
         hash,
     };
     piece.table.add_words(index, made, given)?;
-    state.store.keep_key(key);
     Ok(false)
 }
 
