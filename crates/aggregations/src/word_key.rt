@@ -37,10 +37,10 @@ pub(crate) fn is_key_of(key: &Key, made: WordKey<'_>) -> bool
 }
 
 /// The key of words, in the room of another if both have as many parts.
-pub(crate) fn key_in_room(alloc: Global, room: Key, made: WordKey<'_>) -> Result<Key, AllocError>
+pub(crate) fn key_in_room(alloc: Global, spare: Key, made: WordKey<'_>) -> Result<Key, AllocError>
     ensures { IfOk result (λ key. key ≡ key_made made.entry) }
 {
-    let mut key = with_parts(alloc, room, made.words.len())?;
+    let mut key = with_parts(alloc, spare, made.words.len())?;
     for index in 0..made.words.len() {
         set_part(&mut key, index, made.texts.lent(made.words[index]))?;
     }

@@ -51,7 +51,7 @@ enum Stage {
 pub struct Reader {
     stage: Stage,
     progress: Progress,
-    // Nothing is read before there are this many bytes.
+    // `take` reads nothing before there are this many bytes.
     least: usize,
     // Nothing more is read before there are this many. A row that isn't whole waits for as many
     // bytes again, so that a long one isn't scanned at each block.
@@ -73,8 +73,8 @@ impl Model for Reader {
 }
 
 impl Reader {
-    /// A reader that has taken nothing. It reads whole rows as soon as it has `least` bytes; plain
-    /// ones are read by all workers.
+    /// A reader that has taken nothing. It keeps what `take` gives it until it has `least` bytes,
+    /// and reads plain rows by all workers.
     pub fn new(
         alloc: Global,
         hash_key: HashKey,
@@ -88,7 +88,7 @@ impl Reader {
             stage: Stage::Header,
             progress,
             least,
-            enough: least,
+            enough: 1,
         })
     }
 
@@ -119,6 +119,9 @@ impl Reader {
         }
         if self.progress.left.extend_from_slice(bytes).is_err() {
             return refuse(&mut self.stage, &mut self.progress, TraceFault::Memory);
+        }
+        if self.progress.left.len() < self.least {
+            return Ok(());
         }
         self.read(rt)
     }
@@ -182,8 +185,8 @@ impl Reader {
         }
     }
 
-    /// Reads the rows that are whole, once there are as many bytes as are read at a time. If
-    /// memory is refused, the reader can only return that.
+    /// Reads the rows that are whole, once there are twice as many bytes as the last reading left.
+    /// If memory is refused, the reader can only return that.
     ///
     /// ```text
     /// reader.read(&rt)?; // what `finish` returns stays the same
@@ -198,7 +201,7 @@ impl Reader {
         match advance(rt, self.stage, &mut self.progress) {
             Ok(stage) => {
                 self.stage = stage;
-                self.enough = self.least.max(self.progress.left.len().saturating_mul(2));
+                self.enough = self.progress.left.len().saturating_mul(2);
                 Ok(())
             }
             Err(fault) => refuse(&mut self.stage, &mut self.progress, fault),

@@ -52,7 +52,7 @@ pub(crate) fn keep_owner(
         (λ p. slice_get (map owner_in owners.new) p ≡ Some (owner_of firing.now)) }
 {
     let bytes = owner_bytes(alloc, firing)?;
-    owners.keep(
+    owners.intern(
         &bytes,
         OwnerEntry {
             thread: firing.thread,

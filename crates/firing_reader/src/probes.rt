@@ -49,7 +49,7 @@ pub(crate) fn keep_probe(
         (λ p. slice_get (map probe_in probes.new) p ≡ Some (probe_of firing.now)) }
 {
     let bytes = probe_bytes(alloc, firing)?;
-    probes.keep(
+    probes.intern(
         &bytes,
         ProbeEntry {
             provider: firing.provider.count(),

@@ -1,6 +1,6 @@
 //! Where to look for a thing that was kept, by its hash.
 
-use keyed_hash::{HashKey, word_at};
+use keyed_hash::{HashKey, mix, word_at};
 use std::alloc::{AllocError, Global};
 use std::hash::{BuildHasher, Hasher};
 
@@ -46,19 +46,6 @@ pub(crate) struct Slots {
     used: usize,
 }
 
-// The product of two numbers, its upper half added to its lower.
-#[inline(always)]
-fn folded_product(left: u64, right: u64) -> u64 {
-    let product = left as u128 * right as u128;
-    (product & 0xFFFF_FFFF_FFFF_FFFF) as u64 ^ (product >> 64) as u64
-}
-
-// A hash with one more number.
-#[inline(always)]
-fn mixed(hash: u64, word: u64) -> u64 {
-    folded_product(hash ^ word, 0x9E37_79B9_7F4A_7C15)
-}
-
 impl Slots {
     pub(crate) fn new(alloc: Global, hash_key: HashKey) -> Result<Slots, AllocError> {
         let slots = vec![in alloc; Slot::EMPTY; MIN_SLOTS]?;
@@ -79,17 +66,17 @@ impl Slots {
         }
         let mut hash = self.secret;
         for word in 0..key.len() / 8 {
-            hash = mixed(hash, word_at(key, 8 * word));
+            hash = mix(hash, word_at(key, 8 * word));
         }
-        hash = mixed(hash, word_at(key, key.len() - 8));
-        (mixed(hash, key.len() as u64) >> 32) as u32
+        hash = mix(hash, word_at(key, key.len() - 8));
+        (mix(hash, key.len() as u64) >> 32) as u32
     }
 
     // The tag of fewer bytes than a word has.
     fn short_tag(&self, key: &[u8]) -> u32 {
         let mut hash = self.secret;
         for b in key {
-            hash = mixed(hash, u64::from(*b));
+            hash = mix(hash, u64::from(*b));
         }
         (hash >> 32) as u32
     }

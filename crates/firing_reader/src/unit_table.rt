@@ -197,7 +197,7 @@ impl<E: PlainEntry> UnitTable<E> {
 
     /// The index of a unit that csv read, which is kept if it isn't found. Its bytes have to
     /// tell it from others.
-    pub(crate) fn keep(&mut self, key: &[u8], entry: E) -> Option<u32>
+    pub(crate) fn intern(&mut self, key: &[u8], entry: E) -> Option<u32>
         requires { E.is_in entry key.now }
         ensures { Gains self.old self.new result
             (λ p. slice_get self.new p ≡ Some (key.now, entry)) }

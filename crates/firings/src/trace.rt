@@ -72,7 +72,7 @@ impl Trace {
     }
 }
 
-// The threads of firings.
+// The threads of firings. Once each owner was noted, the rows that are left have no other threads.
 fn threads_of(alloc: Global, firings: &Firings) -> Result<BTreeSet<i32>, AllocError>
     ensures { IfOk result (λ seen.
         (t : ℤ) → Contains seen.keys t ↔ Contains (map thread_of firings.now) t) }
@@ -80,9 +80,17 @@ fn threads_of(alloc: Global, firings: &Firings) -> Result<BTreeSet<i32>, AllocEr
     let indices = firings.owner_indices();
     let mut seen = BTreeSet::new(alloc);
     let mut noted = vec![in alloc; false; indices.owner_count()]?;
+    // Owners before this one were noted.
+    let mut front = 0;
     for at in 0..firings.len() {
+        if front == noted.len() {
+            break;
+        }
         let owner = indices.index_of(at);
         note(&mut seen, &mut noted, owner, indices.thread(owner))?;
+        if noted[front] {
+            front += 1;
+        }
     }
     Ok(seen)
 }

@@ -1,5 +1,5 @@
 -- How the keys of tables are hashed.
-use Rattle.std.specs.Prelude.{ℕ, zero, suc, ◌*◌, ◌/◌, List, take, drop, length}
+use Rattle.std.specs.Prelude.{ℕ, zero, suc, ◌*◌, ◌/◌, List, take, drop, length, bit_xor}
 use Rattle.std.specs.Hash.FoldHasher as folding
 use Rattle.std.specs.declared.hash.FoldHasher.{FoldHasher}
 use Rattle.keyed_hash.specs.declared.hash_key.HashKey.{HashKey}
@@ -28,3 +28,7 @@ hash_of h = folding.finish h.state
 -- the key that a seed makes
 abbrev pub key_of : List ℕ → HashKey
 key_of seed = record { initial = after_bytes (record { state = folding.initial }) seed }
+
+-- a hash with one more word
+abbrev pub mix : ℕ → ℕ → ℕ
+mix hash word = folding.folded_multiply (bit_xor hash word) 0x9e37_79b9_7f4a_7c15

@@ -1,7 +1,8 @@
 //! Hashers that begin at a secret state.
 
 ghost use Rattle.std.specs.Prelude.{◌≡◌, ℕ, List};
-ghost use Rattle.keyed_hash.specs.Hashing.{key_of};
+ghost use Rattle.std.specs.Hash.FoldHasher as folding;
+ghost use Rattle.keyed_hash.specs.Hashing.{key_of, mix as mix_of};
 
 use std::hash::{BuildHasher, FoldHasher, Hasher};
 use std::random::RandomSource;
@@ -79,4 +80,26 @@ impl BuildHasher for HashKey {
     fn build_hasher(&self) -> KeyedHasher {
         self.initial
     }
+}
+
+// The product of two numbers, its upper half joined to its lower.
+#[inline(always)]
+fn folded_product(left: u64, right: u64) -> u64
+    ensures { result ≡ folding.folded_multiply left right }
+{
+    let product = left as u128 * right as u128;
+    (product & 0xffff_ffff_ffff_ffff) as u64 ^ (product >> 64) as u64
+}
+
+/// A hash with one more word, for tables that hash by words and begin at a secret hash. The word is
+/// joined to the hash before the product, so who doesn't know the hash can't choose a product of 0.
+///
+/// ```text
+/// mix(mix(secret, 7), 1); // a hash of 7 and 1
+/// ```
+#[inline(always)]
+pub fn mix(hash: u64, word: u64) -> u64
+    ensures { result ≡ mix_of hash word }
+{
+    folded_product(hash ^ word, 0x9e37_79b9_7f4a_7c15)
 }

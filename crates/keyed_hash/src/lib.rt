@@ -5,5 +5,5 @@
 mod hash_key;
 mod same;
 
-pub use hash_key::{HashKey, KeyedHasher};
+pub use hash_key::{HashKey, KeyedHasher, mix};
 pub use same::{is_same, word_at};

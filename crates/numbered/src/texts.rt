@@ -9,7 +9,7 @@ use crate::index_cache::IndexCache;
 use crate::word::Word;
 use d_values::{Text, ValueRef};
 use indexmap::IndexSet;
-use keyed_hash::{HashKey, is_same, word_at};
+use keyed_hash::{HashKey, is_same, mix, word_at};
 use std::alloc::{AllocError, Global};
 use std::hash::{BuildHasher, Hasher};
 use std::marker::Model;
@@ -22,10 +22,8 @@ pub struct Texts {
     cache: IndexCache,
     secret: u64,
     // The text that was sought last, for its room.
-    room: Text,
+    spare: Text,
 }
-
-const MULTIPLIER: u64 = 0x9e37_79b9_7f4a_7c15;
 
 impl Model for Texts {
     ghost use Rattle.std.specs.Prelude.{List, ℕ};
@@ -54,7 +52,7 @@ impl Texts {
             texts: IndexSet::with_hasher(alloc, hash_key),
             cache: IndexCache::new(alloc),
             secret: hash_key.build_hasher().finish(),
-            room: Text::new(alloc),
+            spare: Text::new(alloc),
         };
         texts.texts.insert(Text::new(alloc))?;
         Ok(texts)
@@ -84,8 +82,8 @@ impl Texts {
     fn number_by_hash(&mut self, bytes: &[u8], hash: u64) -> Result<u64, AllocError>
         ensures { Numbers self.old bytes.now result self.new }
     {
-        self.room.assign(bytes)?;
-        if let Some(index) = index_of(&self.texts, &self.room) {
+        self.spare.assign(bytes)?;
+        if let Some(index) = index_of(&self.texts, &self.spare) {
             self.cache.put(hash, index);
             return Ok(index as u64);
         }
@@ -172,8 +170,7 @@ fn hash(secret: u64, bytes: &[u8]) -> u64 {
     } else {
         (0, 0)
     };
-    let hash = (secret ^ len as u64 ^ first).wrapping_mul(MULTIPLIER);
-    (hash ^ last).wrapping_mul(MULTIPLIER) >> 32
+    mix(mix(secret ^ len as u64, first), last) >> 32
 }
 
 // Four bytes from a place on, as one number.

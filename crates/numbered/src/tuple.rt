@@ -4,6 +4,7 @@ ghost use Rattle.std.specs.Prelude.{◌≡◌, ◌<◌, ◌≤◌, ◌++◌, ◌
 ghost use Rattle.numbered.specs.Shapes.{digit_of, shape_of};
 
 use crate::word::Word;
+use keyed_hash::mix;
 use std::marker::Model;
 
 /// Up to eight words, from left to right. Contracts see the list of them.
@@ -15,8 +16,6 @@ pub struct Tuple {
     hash: u64,
     secret: u64,
 }
-
-const MULTIPLIER: u64 = 0x9e37_79b9_7f4a_7c15;
 
 impl Model for Tuple {
     ghost use Rattle.std.specs.Prelude.{◌≡◌, ◌≤◌, List, take};
@@ -78,7 +77,7 @@ impl Tuple {
         self.words[self.len] = word;
         self.len += 1;
         self.shape = 2 * self.shape + digit(word);
-        self.hash = (self.hash ^ word.bits()).wrapping_mul(MULTIPLIER);
+        self.hash = mix(self.hash, word.bits());
     }
 
     /// The words.

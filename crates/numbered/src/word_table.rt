@@ -10,15 +10,13 @@ use crate::kept_key::KeptKey;
 use crate::tuple::Tuple;
 use crate::word::Word;
 use indexmap::IndexMap;
-use keyed_hash::HashKey;
+use keyed_hash::{HashKey, mix};
 use std::alloc::{AllocError, Global};
 use std::hash::{BuildHasher, Hasher};
 use std::marker::Model;
 
 // At this number of entries those of 0 are left out for the first time.
 const MIN_LIMIT: usize = 64;
-
-const MULTIPLIER: u64 = 0x9e37_79b9_7f4a_7c15;
 
 type Map = IndexMap<KeptKey, u64, HashKey>;
 
@@ -130,12 +128,11 @@ impl WordTable {
         Ok(())
     }
 
-    // A hash of a key.
+    // A hash of a key. The tuple's hash comes first: a tuple of the first word alone has the same
+    // product as that word, and the two would cancel.
     #[inline(always)]
     fn hash(&self, first: u64, second: u64, tuple: &Tuple) -> u64 {
-        let hash = (self.secret ^ first).wrapping_mul(MULTIPLIER);
-        let hash = (hash ^ second).wrapping_mul(MULTIPLIER);
-        (hash ^ tuple.hash()).wrapping_mul(MULTIPLIER) >> 32
+        mix(mix(self.secret ^ tuple.hash(), first), second) >> 32
     }
 }
 

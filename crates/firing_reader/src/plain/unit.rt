@@ -6,7 +6,7 @@ use std::simd::prelude::*;
 
 const COMMA: u8 = b',';
 
-/// How many bytes there are up to the last of this many commas, and with it; 0 if there are fewer.
+/// How many bytes there are up to and with the last of this many commas; 0 if there are fewer.
 #[inline(always)]
 pub(crate) fn end_of(bytes: &[u8], commas: u32) -> usize
     ensures { result ≤ length bytes.now }

@@ -6,8 +6,8 @@ use Rattle.firings.specs.Units.{owner_in}
 use Rattle.firing_reader.proofs.Shared.{part_first, part_text, seen_kept}
 use Rattle.firing_reader.proofs.owners.keep_owner.Goals as goal
 
-pub keep-requires : goal.keep-requires
-keep-requires c =
+pub intern-requires : goal.intern-requires
+intern-requires c =
     let bytes = c.in_ok-bytes.bytes.items in
     let name = c.args.firing.now.execname in
     let (numbers, is) = c.in_ok-bytes.ensures in
@@ -22,5 +22,5 @@ returns c =
     let o = owner_of c.args.firing.now in
     let own = part_first bytes name numbers c.count.result is c.count.ensures.value c.count.ensures.text in
     let same : owner_in (bytes, e) ≡ o = rw own.is refl in
-    let there = rw (c.deref.ensures.value, to_z-of_z w32 c.args.firing.now.thread (search rules), to_z-of_z w32 c.args.firing.now.pid (search rules)) at c.keep.ensures.1 in
-    (c.keep.ensures.0, seen_kept owner_in c.keep.new.self (bytes, e) o c.keep.result same there)
+    let there = rw (c.deref.ensures.value, to_z-of_z w32 c.args.firing.now.thread (search rules), to_z-of_z w32 c.args.firing.now.pid (search rules)) at c.intern.ensures.1 in
+    (c.intern.ensures.0, seen_kept owner_in c.intern.new.self (bytes, e) o c.intern.result same there)
