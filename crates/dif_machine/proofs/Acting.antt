@@ -39,27 +39,29 @@ pub on_word : (texts : List (List ℕ)) (w : Word) (go : Value → Next) (x : Op
 on_word texts w go None there is = absurd (there refl)
 on_word texts w go (Some value) there is = ap go (sym (is value refl).is)
 
-module _ (s : Frame) (some vars : Variables) (p o : Object) (g f : Firing) where
-  -- ---- variables, where an instruction isn't stuck with some
+module _ (s : Frame) (here index : ℕ) (some vars : Variables) (p o : Object) (g f : Firing) where
+  -- ---- variables, where an instruction isn't stuck here with some
 
-  pub loads : (variable : Variable) (d : Reg) → act (load_of variable d) p g s some ≢ Stuck → act (load_of variable d) o f s vars ≡ Goes (with_value s d (held_in vars variable s.tuple)) vars
-  loads (Element x) d runs = key_is s.tuple (puts s d (held_in some (Element x) s.tuple) some) _ runs
+  pub loads : (variable : Variable) (d : Reg) → act (load_of variable d) p g (at_index s here) some ≢ Stuck
+      → act (load_of variable d) o f (at_index s index) vars ≡ Goes (with_value (at_index s index) d (held_in vars variable s.tuple)) vars
+  loads (Element x) d runs = key_is s.tuple (puts (at_index s here) d (held_in some (Element x) s.tuple) some) _ runs
   loads _ d runs = refl
 
-  abbrev goes_on : Variables → Variable → Value → Next
-  goes_on vars variable value = Goes (at_index s (s.pc + 1)) (set_in vars variable s.tuple value)
+  abbrev goes_on : ℕ → Variables → Variable → Value → Next
+  goes_on index vars variable value = Goes (at_index s (index + 1)) (set_in vars variable s.tuple value)
 
-  asks : (variable : Variable) (a : Reg) → act (store_of variable a) p g s some ≢ Stuck → on_kind (kind_in variable) (at s.registers a) (goes_on some variable) ≢ Stuck
-  asks (Element x) a runs = keyed s.tuple (on_kind x.kind (at s.registers a) (goes_on some (Element x))) runs
+  asks : (variable : Variable) (a : Reg) → act (store_of variable a) p g (at_index s here) some ≢ Stuck → on_kind (kind_in variable) (at s.registers a) (goes_on here some variable) ≢ Stuck
+  asks (Element x) a runs = keyed s.tuple (on_kind x.kind (at s.registers a) (goes_on here some (Element x))) runs
   asks _ a runs = runs
 
-  same : (variable : Variable) (a : Reg) → act (store_of variable a) p g s some ≢ Stuck → act (store_of variable a) o f s vars ≡ on_kind (kind_in variable) (at s.registers a) (goes_on vars variable)
-  same (Element x) a runs = key_is s.tuple (on_kind x.kind (at s.registers a) (goes_on some (Element x))) _ runs
+  same : (variable : Variable) (a : Reg) → act (store_of variable a) p g (at_index s here) some ≢ Stuck
+      → act (store_of variable a) o f (at_index s index) vars ≡ on_kind (kind_in variable) (at s.registers a) (goes_on index vars variable)
+  same (Element x) a runs = key_is s.tuple (on_kind x.kind (at s.registers a) (goes_on here some (Element x))) _ runs
   same _ a runs = refl
 
-  module _ (variable : Variable) (a : Reg) (runs : act (store_of variable a) p g s some ≢ Stuck) where
+  module _ (variable : Variable) (a : Reg) (runs : act (store_of variable a) p g (at_index s here) some ≢ Stuck) where
     was : (value : Value) × (at s.registers a ≡ Some value) × (kind_of value ≡ kind_in variable) × ((other : Value → Next) → on_kind (kind_in variable) (at s.registers a) other ≡ other value)
-    was = kind_was (kind_in variable) (at s.registers a) (goes_on some variable) (asks variable a runs)
+    was = kind_was (kind_in variable) (at s.registers a) (goes_on here some variable) (asks variable a runs)
 
     pub stored_there : at s.registers a ≢ None
     stored_there none = none-some was.0 (sym none ∙ was.1)
@@ -71,29 +73,29 @@ module _ (s : Frame) (some vars : Variables) (p o : Object) (g f : Firing) where
       pub stored_kind : kind_of value ≡ kind_in variable
       stored_kind = ap kind_of (sym same_value) ∙ was.2
 
-      pub stores : act (store_of variable a) o f s vars ≡ Goes (at_index s (s.pc + 1)) (set_in vars variable s.tuple value)
-      stores = same variable a runs ∙ was.3 (goes_on vars variable) ∙ ap (goes_on vars variable) same_value
+      pub stores : act (store_of variable a) o f (at_index s index) vars ≡ Goes (at_index s (index + 1)) (set_in vars variable s.tuple value)
+      stores = same variable a runs ∙ was.3 (goes_on index vars variable) ∙ ap (goes_on index vars variable) same_value
 
   -- ---- pushes, of the kind that the instruction says
 
-  abbrev pushing : Kind → Reg → Variables → Next
-  pushing k a vars = on_kind k (at s.registers a) (λ value. pushes s (part_of value) vars)
+  abbrev pushing : Kind → Reg → ℕ → Variables → Next
+  pushing k a index vars = on_kind k (at s.registers a) (λ value. pushes (at_index s index) (part_of value) vars)
 
-  module _ (k : Kind) (a : Reg) (value : Value) (runs : pushing k a some ≢ Stuck) (there : at s.registers a ≡ Some value) where
-    pushed : (vars : Variables) → pushing k a vars ≡ pushes s (part_of value) vars
-    pushed vars =
-        let was = kind_was k (at s.registers a) (λ value. pushes s (part_of value) some) runs in
-        was.3 (λ value. pushes s (part_of value) vars) ∙ ap (λ value. pushes s (part_of value) vars) (same_Some was.0 value (sym was.1 ∙ there))
+  module _ (k : Kind) (a : Reg) (value : Value) (runs : pushing k a here some ≢ Stuck) (there : at s.registers a ≡ Some value) where
+    pushed : (index : ℕ) (vars : Variables) → pushing k a index vars ≡ pushes (at_index s index) (part_of value) vars
+    pushed index vars =
+        let was = kind_was k (at s.registers a) (λ value. pushes (at_index s here) (part_of value) some) runs in
+        was.3 (λ value. pushes (at_index s index) (part_of value) vars) ∙ ap (λ value. pushes (at_index s index) (part_of value) vars) (same_Some was.0 value (sym was.1 ∙ there))
 
-    free : pushes s (part_of value) some ≢ Stuck
-    free h = runs (pushed some ∙ h)
+    free : pushes (at_index s here) (part_of value) some ≢ Stuck
+    free h = runs (pushed here some ∙ h)
 
     -- a push that isn't stuck has room
     pub fits : length s.tuple < 8
-    fits = room (nat_lt (length s.tuple) 8) (length s.tuple) (Goes (with_tuple s (s.tuple ++ part_of value ∷ [])) some) refl free
+    fits = room (nat_lt (length s.tuple) 8) (length s.tuple) (Goes (with_tuple (at_index s here) (s.tuple ++ part_of value ∷ [])) some) refl free
 
-    pub pushes_part : pushing k a vars ≡ Goes (with_tuple s (s.tuple ++ part_of value ∷ [])) vars
-    pushes_part = pushed vars ∙ ap (λ b. cond b (Goes (with_tuple s (s.tuple ++ part_of value ∷ [])) vars) Stuck) (lt-ltb (length s.tuple) 8 fits)
+    pub pushes_part : pushing k a index vars ≡ Goes (with_tuple (at_index s index) (s.tuple ++ part_of value ∷ [])) vars
+    pushes_part = pushed index vars ∙ ap (λ b. cond b (Goes (with_tuple (at_index s index) (s.tuple ++ part_of value ∷ [])) vars) Stuck) (lt-ltb (length s.tuple) 8 fits)
 
 -- the one array of arguments
 pub only_array : (o : Object) (f : Firing) (s : Frame) (vars : Variables) (v : ℕ) (a d : Reg) → act (Ldga v a d) o f s vars ≢ Stuck → v ≡ 0

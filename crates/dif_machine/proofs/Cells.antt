@@ -18,7 +18,6 @@ use Rattle.d_values.specs.Storage.{as_kind}
 use Rattle.d_values.specs.Stores.{kind_of, with_own}
 use Rattle.d_values.specs.Texts.{same_text, same_text_decides}
 use Rattle.d_values.specs.Variables.{same_var, same_var_decides, variable_number}
-use Rattle.d_values.specs.declared.value.Kind.TheVariants as kind
 use Rattle.numbered.specs.Tables.{Entries, word_in, with_word, same_words}
 use Rattle.numbered.specs.Texts.{AreDistinct, text_at}
 use Rattle.numbered.specs.Words.{bits_of, word_of}

@@ -76,7 +76,7 @@ seen_of texts lasting registers comparison tuple numbers = record {
 abbrev pub AreNumbers : List (List ℕ) → List (Option ℕ) → Type 0
 AreNumbers texts numbers = All (λ found. IfSome found (λ n. n < length texts)) numbers
 
--- all numbers of a machine are those of texts, and those that were found of texts that last
+-- each number in the machine is that of a text, and each that was found that of a text that lasts
 pub record IsSound (texts : List (List ℕ)) (lasting : ℕ) (cells : List Content)
     (words : List Word) (found : List (Option ℕ)) : Type 0 where
   pub distinct : AreDistinct texts

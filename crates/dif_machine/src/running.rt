@@ -2,7 +2,7 @@
 
 ghost use Rattle.dif_machine.specs.Vocabulary.{IsValid, object_of, variables};
 ghost use Rattle.dif_machine.specs.Memories.{IsReady, RunsOver};
-ghost use Rattle.dif_machine.specs.Runs.{RunEnds};
+ghost use Rattle.dif_machine.specs.{Runs.RunEnds, Steps.Instructions.Stops};
 
 use crate::built_in::argument;
 use crate::fault::MachineFault;
@@ -12,15 +12,43 @@ use crate::onward::Onward;
 use crate::stepping::execute;
 use crate::tables::Tables;
 use d_values::{ClauseLocals, ThreadTable, Value};
-use dif_validate::{Difo, Load, ValidDifo};
+use dif_validate::{Difo, Load, Reg, ValidDifo};
 use firings::Firing;
 use keyed_hash::HashKey;
 use numbered::Word;
 use std::alloc::{AllocError, Global};
 use std::mem::replace;
 
-// Runs a valid object to its end.
+// Runs a valid object to the register that it returns. What is left of its code is a slice: to find
+// an instruction by an index takes longer than most instructions.
 #[inline(never)]
+fn run_to_return<M: Memory>(
+    difo: &Difo,
+    firing: &Firing,
+    machine: &mut Machine,
+    memory: &mut M,
+) -> Result<Reg, MachineFault>
+    requires valid { IsValid (object_of difo.now) }
+    requires ready { IsReady M.is_over firing.now memory.old machine.old }
+    ensures { Stops M.holds M.is_over M.beside (object_of difo.now) firing.now
+        memory.old machine.old result memory.new machine.new }
+{
+    machine.restart();
+    let code = difo.code.as_slice();
+    let mut left = code;
+    loop {
+        let instr = &left[0];
+        match execute(difo, firing, instr, machine, memory) {
+            Ok(Onward::Next) => left = &left[1..],
+            Ok(Onward::Goes(index)) => left = &code[index..],
+            Ok(Onward::Ends(register)) => return Ok(register),
+            Err(fault) => return Err(fault),
+        }
+    }
+}
+
+// Runs a valid object to its end.
+#[inline(always)]
 fn run_to_end<M: Memory>(
     difo: &Difo,
     firing: &Firing,
@@ -32,17 +60,11 @@ fn run_to_end<M: Memory>(
     ensures { RunsOver M.holds M.is_over M.beside (object_of difo.now) firing.now
         memory.old machine.old result memory.new machine.new }
 {
-    machine.restart();
-    let mut index = 0;
-    loop {
-        let instr = &difo.code[index];
-        match execute(difo, firing, instr, index + 1, machine, memory) {
-            Ok(Onward::Goes(next)) => index = next,
-            Ok(Onward::Ends(register)) => return Ok(machine.end(register)),
-            Err(fault) => {
-                machine.forget();
-                return Err(fault);
-            }
+    match run_to_return(difo, firing, machine, memory) {
+        Ok(register) => Ok(machine.end(register)),
+        Err(fault) => {
+            machine.forget();
+            Err(fault)
         }
     }
 }

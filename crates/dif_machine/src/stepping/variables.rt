@@ -16,16 +16,15 @@ pub(super) fn load<M: Memory>(
     memory: &mut M,
     variable: Variable,
     d: Reg,
-    next: usize,
 ) -> Step
-    requires can { CanExecute (load_of variable d) next machine.old.frame }
+    requires can { CanExecute (load_of variable d) machine.old.frame }
     requires running { IsRunning M.is_over memory.old machine.old }
     ensures { (o : Object) (f : Recorded) → ExecutesOn M.holds M.is_over M.beside
-        (load_of variable d) next o f memory.old machine.old result memory.new machine.new }
+        (load_of variable d) o f memory.old machine.old result memory.new machine.new }
 {
     let word = machine.load(memory, variable)?;
     machine.put(d, word);
-    Ok(Onward::Goes(next))
+    Ok(Onward::Next)
 }
 
 /// `stls x, a`, `stts x, a` and `sttaa x, a`: stores a value in a variable.
@@ -35,14 +34,13 @@ pub(super) fn store<M: Memory>(
     memory: &mut M,
     variable: Variable,
     a: Reg,
-    next: usize,
 ) -> Step
-    requires can { CanExecute (store_of variable a) next machine.old.frame }
+    requires can { CanExecute (store_of variable a) machine.old.frame }
     requires running { IsRunning M.is_over memory.old machine.old }
     ensures { (o : Object) (f : Recorded) → ExecutesOn M.holds M.is_over M.beside
-        (store_of variable a) next o f memory.old machine.old result memory.new machine.new }
+        (store_of variable a) o f memory.old machine.old result memory.new machine.new }
 {
     let word = machine.word(a);
     machine.store(memory, variable, word)?;
-    Ok(Onward::Goes(next))
+    Ok(Onward::Next)
 }

@@ -12,4 +12,4 @@ pub returns : goal.returns
 returns c =
     let left = there _ _ _ _ _ c.text_number.ensures.is c.texts-texts.ensures c.text-left.ensures in
     let right = there _ _ _ _ _ c.text_number-2.ensures.is c.texts-texts.ensures c.text-right.ensures in
-    λ o f. goes _ _ o f _ _ _ c.compare.ensures (λ index is_next vars. rw (left, right, c.compare_texts-known.ensures) refl)
+    λ o f. goes _ o f _ _ _ c.compare.ensures (λ index vars. rw (left, right, c.compare_texts-known.ensures) refl)

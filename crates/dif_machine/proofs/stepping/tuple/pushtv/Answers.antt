@@ -1,13 +1,12 @@
-use Rattle.dif_machine.specs.Frames.{at_index}
-use Rattle.dif_machine.specs.Vocabulary.{Pushtv, NumberKind}
+use Rattle.dif_machine.specs.Vocabulary.{NumberKind}
 use Rattle.dif_machine.proofs.Acting.{fits, pushes_part}
-use Rattle.dif_machine.proofs.Executing.{can_here, goes}
+use Rattle.dif_machine.proofs.Executing.{goes}
 use Rattle.dif_machine.proofs.stepping.tuple.pushtv.Goals as goal
 
 pub push-requires-clause-room : goal.push-requires-clause-room
-push-requires-clause-room c = let can = c.requires in fits (at_index c.args.machine.now.frame can.index) can.vars can.vars can.object can.object can.firing can.firing NumberKind c.args.a _ can.runs c.number-word.ensures
+push-requires-clause-room c = let can = c.requires in fits c.args.machine.now.frame can.index can.index can.vars can.vars can.object can.object can.firing can.firing NumberKind c.args.a _ can.runs c.number-word.ensures
 
 pub returns : goal.returns
-returns c = λ o f. goes _ _ o f _ _ _ c.push.ensures (λ index is_next vars.
-    let here = can_here (Pushtv c.args.a) c.args.next c.args.machine.now.frame c.requires index is_next in
-    pushes_part (at_index c.args.machine.now.frame index) c.requires.vars vars c.requires.object o c.requires.firing f NumberKind c.args.a _ here c.number-word.ensures)
+returns c = λ o f. goes _ o f _ _ _ c.push.ensures (λ index vars.
+    let can = c.requires in
+    pushes_part c.args.machine.now.frame can.index index can.vars vars can.object o can.firing f NumberKind c.args.a _ can.runs c.number-word.ensures)
