@@ -8,7 +8,6 @@ pub mod Described
 pub mod EffectRuns
 pub mod Effects
 pub mod Evaluation
-pub mod Merging
 pub mod OnThread
 pub mod Patterns
 pub mod PiecePlaces

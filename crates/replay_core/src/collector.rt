@@ -61,7 +61,7 @@ fn whole_of_pieces(alloc: Global, pieces: Vec<Piece>) -> Result<Whole, AllocErro
         exit,
     } = contents_of(alloc, pieces)?;
     let events = by_number(events)?;
-    let table = merge_all(alloc, tables)?;
+    let table = merge_all(tables)?;
     Ok(Whole {
         events,
         table,

@@ -17,7 +17,7 @@ pub use collect_fault::CollectFault;
 pub use collector::collect;
 pub use collector::whole::Whole;
 pub use lanes::Lanes;
-pub use lanes::compiled::{DifLane, DifLanes, dif_lane};
+pub use lanes::compiled::{DifLane, DifLanes};
 pub use lanes::engine::Engine;
 pub use lanes::lane::Lane;
 pub use lanes::piece::Piece;

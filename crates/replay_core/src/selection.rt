@@ -250,5 +250,5 @@ fn list_for(
         → IfOk result (λ p. slice_get lists.new p ≡ Some (indices_for probe.now 0 ds)) }
 {
     let clauses = table.clauses(alloc, probe)?;
-    lists.keep(ClauseIndices::of(alloc, &clauses)?)
+    lists.intern(ClauseIndices::of(alloc, &clauses)?)
 }

@@ -16,12 +16,8 @@ use std::alloc::{AllocError, Global};
 /// A lane that runs the objects of a program.
 pub type DifLane<'a> = Lane<'a, CompiledClause>;
 
-/// A lane that has run no firing, over what a script was compiled to.
-pub fn dif_lane(
-    alloc: Global,
-    hash_key: HashKey,
-    program: &Program,
-) -> Result<DifLane<'_>, AllocError>
+// A lane that has run no firing, over what a script was compiled to.
+fn dif_lane(alloc: Global, hash_key: HashKey, program: &Program) -> Result<DifLane<'_>, AllocError>
     requires { (m : ScriptMeant) × IsCompiled m program.now }
     ensures script { IfOk result (λ l. (m : ScriptMeant) → IsCompiled m program.now
         → ⟦<DifLane<'static> as Engine>⟧.runs l m) }

@@ -52,7 +52,7 @@ impl ClauseLists {
     }
 
     /// The index of a list, which is added if it isn't there.
-    pub(crate) fn keep(&mut self, list: ClauseIndices) -> Result<usize, AllocError>
+    pub(crate) fn intern(&mut self, list: ClauseIndices) -> Result<usize, AllocError>
         ensures grows { Extends self.old self.new }
         ensures index { IfOk result (λ p. slice_get self.new p ≡ Some list) }
     {

@@ -1,4 +1,4 @@
-//! One round: every group by one of the workers.
+//! One round, in which each group is run by one of the workers.
 
 ghost use Rattle.std.specs.Prelude.{◌≡◌, ◌<◌, ◌≤◌, IfOk, vec_len};
 ghost use Rattle.replay_core.specs.Vocabulary.{grouping};
