@@ -8,18 +8,18 @@ use Rattle.clap.specs.declared.error.kind.ErrorKind.TheVariants.{DisplayHelp, In
 use Rattle.clap.specs.declared.error.kind.ErrorKind.TheVariants.{OutOfMemory, UnknownArgument}
 use Rattle.clap.specs.declared.error.kind.ErrorKind.{ErrorKind}
 use Rattle.clap.proofs.OnLiterals.{clap_on_literals}
-use Rattle.consumer.specs.Words.{Asks, AsksHelp, HasPlan, IsRequestIn, IsFaultOf, IsNumberIn, IsOption}
-use Rattle.consumer.specs.Words.{IsPlanBy, IsPlanIn, Mistakes}
-use Rattle.consumer.specs.Steps.Words.{IsPlanFault, IsReportedAs}
-use Rattle.consumer.specs.Words.{AskForRun, SetPlan, engine_called, file_in, program}
+use Rattle.consumer.specs.Arguments.{Asks, AsksHelp, HasPlan, IsRequestIn, IsFaultOf, IsNumberIn, IsOption}
+use Rattle.consumer.specs.Arguments.{IsPlanBy, IsPlanIn, Mistakes}
+use Rattle.consumer.specs.Steps.Arguments.{IsPlanFault, IsReportedAs}
+use Rattle.consumer.specs.Arguments.{AskForRun, SetPlan, engine_called, file_in, program}
 use Rattle.std.specs.Prelude.{◌≤◌, IfErr, IsSomeAnd, MatchResult, Result, Ok, Err, option_and_then}
 use Rattle.std.proofs.lemmas.Option.{same_Some}
 use Rattle.consumer.specs.Plans.{IsDefault}
 use Rattle.consumer.specs.Vocabulary.{IsNumeral, digits_value, without_leading_plus, Dealt, Dif}
 use Rattle.consumer.specs.Vocabulary.{Plan, MAX_GROUPS, MAX_WORKERS}
-use Rattle.consumer.specs.declared.words.Request.{Request}
-use Rattle.consumer.specs.declared.words.UsageFault.{UsageFault}
-use Rattle.consumer.specs.declared.words.UsageFault.TheVariants.{Help, Usage, Memory}
+use Rattle.consumer.specs.declared.arguments.Request.{Request}
+use Rattle.consumer.specs.declared.arguments.UsageFault.{UsageFault}
+use Rattle.consumer.specs.declared.arguments.UsageFault.TheVariants.{Help, Usage, Memory}
 
 pub is_simple_program : is_simple program ≡ true
 unfolding clap_on_literals
@@ -30,41 +30,41 @@ unfolding clap_on_literals
 is_free_program = refl
 
 -- the rows of a command that is the program
-pub rows_matched : (a : App) (words : List (List ℕ)) (m : ArgMatches) → a ≡ program → HasMatchesOf a words m
-    → rows_of (found_of m) ≡ matches_of program words
-rows_matched a words m same has =
+pub rows_matched : (a : App) (arguments : List (List ℕ)) (m : ArgMatches) → a ≡ program → HasMatchesOf a arguments m
+    → rows_of (found_of m) ≡ matches_of program arguments
+rows_matched a arguments m same has =
     let rows = has (ap is_simple same ∙ is_simple_program) in
     rw (rows.0, same) refl
 
 -- and no fault is found
-pub no_fault : (a : App) (words : List (List ℕ)) → a ≡ program → (is_simple_and_free a ≡ true → fault_of a words ≡ [])
-    → fault_of program words ≡ []
-no_fault a words same free =
-    subst (λ (x : App). fault_of x words ≡ []) same (free (ap is_simple_and_free same ∙ is_free_program))
+pub no_fault : (a : App) (arguments : List (List ℕ)) → a ≡ program → (is_simple_and_free a ≡ true → fault_of a arguments ≡ [])
+    → fault_of program arguments ≡ []
+no_fault a arguments same free =
+    subst (λ (x : App). fault_of x arguments ≡ []) same (free (ap is_simple_and_free same ∙ is_free_program))
 
--- what is asked in the matches is asked by the words
-pub request : (rows : List Row) (words : List (List ℕ)) (r : Result Request UsageFault) → fault_of program words ≡ []
-    → rows ≡ matches_of program words → MatchResult r (IsRequestIn rows) (IsPlanFault rows) → MatchResult r (Asks words) (IsFaultOf words)
-request rows words (Ok x) none same named = record { accepted = none; named = subst (λ r. IsRequestIn r x) same named }
-request rows words (Err (Help e)) none same fault = absurd fault
-request rows words (Err (Usage e)) none same fault =
+-- what is asked in the matches is asked by the arguments
+pub request : (rows : List Row) (arguments : List (List ℕ)) (r : Result Request UsageFault) → fault_of program arguments ≡ []
+    → rows ≡ matches_of program arguments → MatchResult r (IsRequestIn rows) (IsPlanFault rows) → MatchResult r (Asks arguments) (IsFaultOf arguments)
+request rows arguments (Ok x) none same named = record { accepted = none; named = subst (λ r. IsRequestIn r x) same named }
+request rows arguments (Err (Help e)) none same fault = absurd fault
+request rows arguments (Err (Usage e)) none same fault =
     (fault.0, fault.1, inr (none, λ has. fault.2 has.0 (subst (λ r. IsPlanIn r has.0) (sym same) has.1)))
-request rows words (Err Memory) none same fault = tt
+request rows arguments (Err Memory) none same fault = tt
 
 -- where they name a plan, only memory can be wanting
-pub request_or_memory : (rows : List Row) (words : List (List ℕ)) (r : Result Request UsageFault) → rows ≡ matches_of program words
-    → MatchResult r (IsRequestIn rows) (IsPlanFault rows) → HasPlan words → IfErr r (λ e. e ≡ Memory)
-request_or_memory rows words (Ok x) same named has = tt
-request_or_memory rows words (Err (Help e)) same fault has = absurd fault
-request_or_memory rows words (Err (Usage e)) same fault has =
+pub request_or_memory : (rows : List Row) (arguments : List (List ℕ)) (r : Result Request UsageFault) → rows ≡ matches_of program arguments
+    → MatchResult r (IsRequestIn rows) (IsPlanFault rows) → HasPlan arguments → IfErr r (λ e. e ≡ Memory)
+request_or_memory rows arguments (Ok x) same named has = tt
+request_or_memory rows arguments (Err (Help e)) same fault has = absurd fault
+request_or_memory rows arguments (Err (Usage e)) same fault has =
     absurd (fault.2 has.0 (subst (λ r. IsPlanIn r has.0) (sym same) has.1))
-request_or_memory rows words (Err Memory) same fault has = refl
+request_or_memory rows arguments (Err Memory) same fault has = refl
 
 -- where clap promises that only memory can fail, the fault is reported as Memory
-pub only_memory : (a : App) (words : List (List ℕ)) (error : Error) (fault : UsageFault) → a ≡ program → IsReportedAs error fault
-    → (takes a words ≡ true → kind_of error ≡ OutOfMemory) → takes program words ≡ true → fault ≡ Memory
-only_memory a words error fault same told promise taken =
-    told_so error fault told (promise (subst (λ (x : App). takes x words ≡ true) (sym same) taken))
+pub only_memory : (a : App) (arguments : List (List ℕ)) (error : Error) (fault : UsageFault) → a ≡ program → IsReportedAs error fault
+    → (takes a arguments ≡ true → kind_of error ≡ OutOfMemory) → takes program arguments ≡ true → fault ≡ Memory
+only_memory a arguments error fault same told promise taken =
+    told_so error fault told (promise (subst (λ (x : App). takes x arguments ≡ true) (sym same) taken))
   where
     told_so : (error : Error) (fault : UsageFault) → IsReportedAs error fault → kind_of error ≡ OutOfMemory → fault ≡ Memory
     told_so error (Help e) told memory = cc
@@ -89,12 +89,12 @@ hyphen_runs : (fault_of program (codes "-s" ∷ (45 ∷ []) ∷ []) ≡ []) × (
 unfolding clap_on_literals
 hyphen_runs = (refl, refl)
 
-pub help_requested : (words : List (List ℕ)) → AsksHelp words → fault_of program words ≡ DisplayHelp ∷ []
+pub help_requested : (arguments : List (List ℕ)) → AsksHelp arguments → fault_of program arguments ≡ DisplayHelp ∷ []
 unfolding clap_on_literals
 help_requested _ AsksHelp.short = refl
 help_requested _ AsksHelp.long = refl
 
--- of a name after -s in one word, but with an equals sign
+-- of a name after -s in one argument, but with an equals sign
 joined_runs : (b : ℕ) (rest : List ℕ) → (b == 61) ≡ false
     → (fault_of program ((codes "-s" ++ b ∷ rest) ∷ []) ≡ []) × (file_in (matches_of program ((codes "-s" ++ b ∷ rest) ∷ [])) ≡ Some (b ∷ rest))
 unfolding clap_on_literals
@@ -116,7 +116,7 @@ hyphen_stray : fault_of program ((45 ∷ []) ∷ []) ≡ UnknownArgument ∷ []
 unfolding clap_on_literals
 hyphen_stray = refl
 
-pub mistaken : (words : List (List ℕ)) (kind : ErrorKind) → Mistakes words kind → fault_of program words ≡ kind ∷ []
+pub mistaken : (arguments : List (List ℕ)) (kind : ErrorKind) → Mistakes arguments kind → fault_of program arguments ≡ kind ∷ []
 mistaken _ _ Mistakes.no_file = no_file
 mistaken _ _ (Mistakes.stray [] plain) = empty_stray
 mistaken _ _ (Mistakes.stray (b ∷ rest) plain) = first_byte b rest plain (b == 45) refl
@@ -139,8 +139,8 @@ name_runs : (b : ℕ) (rest : List ℕ) → b ≢ 61 → (t : Bool) → (b == 61
 name_runs b rest other false differs = joined_runs b rest differs
 name_runs b rest other true same = absurd (other (search rules))
 
-pub runs : (words : List (List ℕ)) (file : Option (List ℕ)) → AskForRun words file
-    → (fault_of program words ≡ []) × (file_in (matches_of program words) ≡ file)
+pub runs : (arguments : List (List ℕ)) (file : Option (List ℕ)) → AskForRun arguments file
+    → (fault_of program arguments ≡ []) × (file_in (matches_of program arguments) ≡ file)
 runs _ _ AskForRun.bundle = bundle_runs
 runs _ _ (AskForRun.script [] plain) = empty_runs
 runs _ _ (AskForRun.script (b ∷ rest) plain) = script_runs b rest plain (b == 45) refl
@@ -193,8 +193,8 @@ name_defaults : (b : ℕ) (rest : List ℕ) → b ≢ 61 → (t : Bool) → (b =
 name_defaults b rest other false differs = joined_defaults b rest differs
 name_defaults b rest other true same = absurd (other (search rules))
 
-has_defaults : (words : List (List ℕ)) (file : Option (List ℕ)) → AskForRun words file
-    → HasDefaults (matches_of program words)
+has_defaults : (arguments : List (List ℕ)) (file : Option (List ℕ)) → AskForRun arguments file
+    → HasDefaults (matches_of program arguments)
 has_defaults _ _ AskForRun.bundle = bundle_defaults
 has_defaults _ _ (AskForRun.script [] plain) = empty_defaults
 has_defaults _ _ (AskForRun.script (b ∷ rest) plain) = script_defaults b rest plain (b == 45) refl
@@ -217,12 +217,12 @@ default_plan rows plan has is = record {
   engine = same_Some plan.engine Dif (sym is.engine ∙ ap (option_and_then engine_called) has.engine);
 }
 
-pub defaults : (words : List (List ℕ)) (file : Option (List ℕ)) (request : Request) → AskForRun words file
-    → Asks words request → IsDefault request.plan
-defaults words file request runs asks =
-    default_plan (matches_of program words) request.plan (has_defaults words file runs) asks.named.plan
+pub defaults : (arguments : List (List ℕ)) (file : Option (List ℕ)) (request : Request) → AskForRun arguments file
+    → Asks arguments request → IsDefault request.plan
+defaults arguments file request runs asks =
+    default_plan (matches_of program arguments) request.plan (has_defaults arguments file runs) asks.named.plan
 
--- the values that the words give to the options of a plan
+-- the values that the arguments give to the options of a plan
 record HasValues (rows : List Row) (w g e : List ℕ) : Type 0 where
   workers : one_of (codes "workers") rows ≡ Some w
   groups : one_of (codes "groups") rows ≡ Some g
@@ -259,8 +259,8 @@ engine_value b rest other = record {
   engine = rw (other, other) refl;
 }
 
-has_values : (words : List (List ℕ)) (workers groups engine : List ℕ) → SetPlan words workers groups engine
-    → HasValues (matches_of program words) workers groups engine
+has_values : (arguments : List (List ℕ)) (workers groups engine : List ℕ) → SetPlan arguments workers groups engine
+    → HasValues (matches_of program arguments) workers groups engine
 has_values _ _ _ _ (SetPlan.workers w v) = rw v.2 (workers_value v.0 v.1 (no_hyphen v.0 v.3 (v.0 == 45) refl))
 has_values _ _ _ _ (SetPlan.groups g v) = rw v.2 (groups_value v.0 v.1 (no_hyphen v.0 v.3 (v.0 == 45) refl))
 has_values _ _ _ _ (SetPlan.engine e v) = rw v.2 (engine_value v.0 v.1 (no_hyphen v.0 v.3 (v.0 == 45) refl))
@@ -273,7 +273,7 @@ plan_by rows workers groups engine plan has is = record {
   engine = sym (ap (option_and_then engine_called) has.engine) ∙ is.engine;
 }
 
-pub plans_named : (words : List (List ℕ)) (workers groups engine : List ℕ) (request : Request)
-    → SetPlan words workers groups engine → Asks words request → IsPlanBy workers groups engine request.plan
-plans_named words workers groups engine request set asks =
-    plan_by (matches_of program words) workers groups engine request.plan (has_values words workers groups engine set) asks.named.plan
+pub plans_named : (arguments : List (List ℕ)) (workers groups engine : List ℕ) (request : Request)
+    → SetPlan arguments workers groups engine → Asks arguments request → IsPlanBy workers groups engine request.plan
+plans_named arguments workers groups engine request set asks =
+    plan_by (matches_of program arguments) workers groups engine request.plan (has_values arguments workers groups engine set) asks.named.plan

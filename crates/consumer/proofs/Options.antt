@@ -11,8 +11,8 @@ use Rattle.clap.specs.declared.builder.arg.Arg.{Arg}
 use Rattle.clap.specs.declared.builder.command.Command.{Command}
 use Rattle.clap.specs.declared.parser.matches.Found.{Found}
 use Rattle.clap.proofs.WalkLemmas.{first_value-rows, one_text-rows}
-use Rattle.consumer.specs.Steps.Words.{HasRule}
-use Rattle.consumer.specs.Words.{IsNumberIn, engine_called, engine_in, file_in}
+use Rattle.consumer.specs.Steps.Arguments.{HasRule}
+use Rattle.consumer.specs.Arguments.{IsNumberIn, engine_called, engine_in, file_in}
 use Rattle.consumer.specs.declared.plan.EngineKind.{EngineKind}
 
 -- a command with one more option

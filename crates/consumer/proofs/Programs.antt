@@ -10,20 +10,20 @@ use Rattle.clap.specs.declared.error.kind.ErrorKind.{ErrorKind}
 use Rattle.d_parser.specs.declared.fault.ParseFault.TheVariants as parse
 use Rattle.replay_core.specs.Layouts.{LayoutMeant, IsDeterministic}
 use Rattle.streams.specs.Stream.{IsSent, SinkSeen}
-use Rattle.consumer.specs.declared.words.UsageFault.TheVariants.{Help, Usage}
-use Rattle.consumer.specs.declared.words.UsageFault.TheVariants as usage
+use Rattle.consumer.specs.declared.arguments.UsageFault.TheVariants.{Help, Usage}
+use Rattle.consumer.specs.declared.arguments.UsageFault.TheVariants as usage
 use Rattle.consumer.specs.Answer.{without_line}
 use Rattle.consumer.specs.Bundle.{Divides}
 use Rattle.consumer.specs.Consuming.{HoldsOfInput, WritesAnswer, WritesBundle, WritesOut}
 use Rattle.consumer.specs.Plans.{IsMisgrouped}
 use Rattle.consumer.specs.Program.{Ends, EndsWithoutRun, IsBroken, IsRequest, IsRunOf}
-use Rattle.consumer.specs.Program.{StreamsSeen, WriteAlike, words_of, ran, without_run}
+use Rattle.consumer.specs.Program.{StreamsSeen, WriteAlike, arguments_of, ran, without_run}
 use Rattle.consumer.specs.Refusals.{IsReported, status_of}
 use Rattle.consumer.specs.Replaying.{IsOfPlan, IsReplay}
 use Rattle.consumer.specs.Vocabulary.{ConsumeFault, Read, Refused, Write, Dealt, GroupFault, Plan}
 use Rattle.consumer.specs.Vocabulary.{Refusal, Lex, Parse, Typing, Trace, Group, Memory, Replayed}
 use Rattle.consumer.specs.Vocabulary.{Request, UsageFault}
-use Rattle.consumer.specs.Words.{Asks, HasPlan, IsFaultOf, file_in, program}
+use Rattle.consumer.specs.Arguments.{Asks, HasPlan, IsFaultOf, file_in, program}
 use Rattle.consumer.proofs.Agreeing.{apart, refusals_agree, shown_agree}
 use Rattle.consumer.proofs.Divisions.{one_division}
 
@@ -184,28 +184,28 @@ module _ (shows : LayoutMeant) (holds : List ℕ → Option (List ℕ)) (known :
   by_run request n dealt (Err (Refused f)) (inl run) line = inr (by_file request.plan n dealt (Err (Refused f)) line request.file (run.shown (λ e. cc)))
   by_run request n dealt result (inr none) line = inl (record { fault = Read; is = refl; line = subst (λ r. IsReported r old.errors new.errors status) none.1 line })
 
-  -- words that ask for a run are no mistake
-  spent : (words : List (List ℕ)) (request : Request) (fault : UsageFault) → Asks words request → IsFaultOf words fault ⊎ (fault ≡ usage.Memory)
+  -- arguments that ask for a run are no mistake
+  spent : (arguments : List (List ℕ)) (request : Request) (fault : UsageFault) → Asks arguments request → IsFaultOf arguments fault ⊎ (fault ≡ usage.Memory)
       → EndsWithoutRun fault old new status → IsBroken old new status
-  spent words request usage.Memory asks is ends = record { fault = Refused Memory; is = refl; line = ends.line }
-  spent words request (Help e) asks (inr is) ends = absurd cc
-  spent words request (Usage e) asks (inr is) ends = absurd cc
-  spent words request (Help e) asks (inl is) ends = absurd (none_among (fault_of program words) _ asks.accepted is.1)
-  spent words request (Usage e) asks (inl is) ends =
-      absurd (⊎_elim (λ (found : IsAmong (kind_of e) (fault_of program words)). none_among (fault_of program words) _ asks.accepted found)
-      (λ (found : (fault_of program words ≡ []) × ¬ HasPlan words). found.1 (request.plan, asks.named.plan)) is.2)
+  spent arguments request usage.Memory asks is ends = record { fault = Refused Memory; is = refl; line = ends.line }
+  spent arguments request (Help e) asks (inr is) ends = absurd cc
+  spent arguments request (Usage e) asks (inr is) ends = absurd cc
+  spent arguments request (Help e) asks (inl is) ends = absurd (none_among (fault_of program arguments) _ asks.accepted is.1)
+  spent arguments request (Usage e) asks (inl is) ends =
+      absurd (⊎_elim (λ (found : IsAmong (kind_of e) (fault_of program arguments)). none_among (fault_of program arguments) _ asks.accepted found)
+      (λ (found : (fault_of program arguments ≡ []) × ¬ HasPlan arguments). found.1 (request.plan, asks.named.plan)) is.2)
 
-  -- the program came to this, of the file that its words name
-  by_program : {A Z E : Type 0} (all : IntoIter (String A) Z) (request : Request) → Asks (words_of all) request → Ends {E = E} shows (Ok all) holds old new status
+  -- the program came to this, of the file that its arguments name
+  by_program : {A Z E : Type 0} (all : IntoIter (String A) Z) (request : Request) → Asks (arguments_of all) request → Ends {E = E} shows (Ok all) holds old new status
       → IsBroken old new status
-      ⊎ ((script trace : List ℕ) × IsSource (file_in (matches_of program (words_of all))) holds input script trace × Came shows script trace old new status)
+      ⊎ ((script trace : List ℕ) × IsSource (file_in (matches_of program (arguments_of all))) holds input script trace × Came shows script trace old new status)
   by_program all request asks (ran own result asked run line) =
       ⊎_elim (λ (is : IsBroken old new status). inl is)
       (λ (came : (script trace : List ℕ) × IsSource (option_map string_bytes own.file) holds input script trace × Came shows script trace old new status).
       inr (came.0, came.1, subst (λ file. IsSource file holds input came.0 came.1) asked.named.file came.2, came.3))
       (by_run own asked.named.plan.groups.0 asked.named.plan.groups.1 result run line)
   by_program all request asks (without_run fault unasked unread ends) =
-      inl (spent (words_of all) request fault asks (⊎_elim (λ (is : fault ≡ usage.Memory). inr is) (λ (is : IsFaultOf (words_of all) fault). inl is) unasked) ends)
+      inl (spent (arguments_of all) request fault asks (⊎_elim (λ (is : fault ≡ usage.Memory). inr is) (λ (is : IsFaultOf (arguments_of all) fault). inl is) unasked) ends)
 
 pub programs_agree : (shows : LayoutMeant) {A Z E : Type 0} (given : Result (IntoIter (String A) Z) E) → IsDeterministic shows
     → (holds : List ℕ → Option (List ℕ)) (input : List ℕ) (request : Request) (old new old' new' : StreamsSeen) (status status' : ℕ)
@@ -215,7 +215,7 @@ pub programs_agree : (shows : LayoutMeant) {A Z E : Type 0} (given : Result (Int
     ⊎ ((status ≡ status') × WriteAlike old.output new.output old'.output new'.output)
 programs_agree shows (Err e) each holds input request old new old' new' status status' asked known full full' first second = absurd asked
 programs_agree shows {E = E} (Ok all) each holds input request old new old' new' status status' asked known full full' first second =
-    let file = file_in (matches_of program (words_of all)) in
+    let file = file_in (matches_of program (arguments_of all)) in
     ⊎_elim (λ (is : IsBroken old new status). inl is)
     (λ (x : (script trace : List ℕ) × IsSource file holds input script trace × Came shows script trace old new status).
     ⊎_elim (λ (is : IsBroken old' new' status'). inr (inl is))

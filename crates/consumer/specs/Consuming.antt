@@ -7,7 +7,7 @@ use Rattle.consumer.specs.Vocabulary.{MAX_CALLS, ReadFault, Failed, ConsumeFault
 use Rattle.consumer.specs.Vocabulary.{Write, Refusal, Memory, Plan, Replayed}
 use Rattle.consumer.specs.{Bundle.Divides, Replaying.IsReplay}
 
--- this holds of the bytes that were to be read; if these are not known, of some
+-- this holds of the bytes that were to be read or, if these are not known, of some bytes
 pub record HoldsOfInput (remaining : Option (List ℕ)) (Holds : List ℕ → Type 0) : Type 0 where
   pub input : List ℕ
   pub read : IfSome remaining (λ bytes. input ≡ bytes)

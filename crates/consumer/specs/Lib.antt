@@ -1,5 +1,6 @@
 pub mod Vocabulary
 pub mod Answer
+pub mod Arguments
 pub mod Bounds
 pub mod Bundle
 pub mod Consuming
@@ -9,5 +10,4 @@ pub mod Program
 pub mod Refusals
 pub mod Replaying
 pub mod Scripts
-pub mod Words
 pub mod Steps

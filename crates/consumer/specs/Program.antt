@@ -11,10 +11,10 @@ use Rattle.consumer.specs.Consuming.{HoldsOfInput, IsConsumed, WritesAnswer, Wri
 use Rattle.consumer.specs.Refusals.{IsReported, status_at_end}
 use Rattle.consumer.specs.Vocabulary.{into_iter_items, ConsumeFault, Request}
 use Rattle.consumer.specs.Vocabulary.{Read, Refused, Write, Memory, Replayed, UsageFault}
-use Rattle.consumer.specs.Words.{Asks, IsFaultOf, IsMistake}
+use Rattle.consumer.specs.Arguments.{Asks, IsFaultOf, IsMistake}
 use Rattle.consumer.specs.declared.program.Streams.{Streams}
-use Rattle.consumer.specs.declared.words.UsageFault.TheVariants.{Help, Usage}
-use Rattle.consumer.specs.declared.words.UsageFault.TheVariants as usage
+use Rattle.consumer.specs.declared.arguments.UsageFault.TheVariants.{Help, Usage}
+use Rattle.consumer.specs.declared.arguments.UsageFault.TheVariants as usage
 use Rattle.clap.specs.declared.error.kind.ErrorKind.TheVariants.{ValueValidation}
 
 -- ---- its streams
@@ -35,20 +35,20 @@ pub record AreUnfailed (s : StreamsSeen) : Type 0 where
   pub output : IsFalse s.output.has_failed
   pub errors : IsFalse s.errors.has_failed
 
--- ---- its words
+-- ---- its arguments
 
--- the words after the program's name
-abbrev pub words_of : {A Z : Type 0} → IntoIter (String A) Z → List (List ℕ)
-words_of all = map string_bytes (drop 1 (into_iter_items all))
+-- the arguments after the program's name
+abbrev pub arguments_of : {A Z : Type 0} → IntoIter (String A) Z → List (List ℕ)
+arguments_of all = map string_bytes (drop 1 (into_iter_items all))
 
--- the words ask for this
+-- the arguments ask for this
 abbrev pub IsRequest : {A Z E : Type 0} → Result (IntoIter (String A) Z) E → Request → Type 0
-IsRequest given request = IsOkAnd given (λ all. Asks (words_of all) request)
+IsRequest given request = IsOkAnd given (λ all. Asks (arguments_of all) request)
 
--- the words ask for no run, for this reason; or one is not UTF-8, or memory ran out
+-- the arguments ask for no run, for this reason; or one is not UTF-8, or memory ran out
 abbrev pub IsNoRequest : {A Z E : Type 0} → Result (IntoIter (String A) Z) E → UsageFault → Type 0
 IsNoRequest given fault = (fault ≡ usage.Memory) ⊎ MatchResult given
-    (λ all. IsFaultOf (words_of all) fault) (λ e. IsMistake ValueValidation fault)
+    (λ all. IsFaultOf (arguments_of all) fault) (λ e. IsMistake ValueValidation fault)
 
 -- ---- a run
 
@@ -80,7 +80,7 @@ pub record IsHelped (old new : StreamsSeen) (status : ℕ) : Type 0 where
       (IsReported (Err Write) old.errors new.errors status)
       ((status ≡ 0) × (new.errors ≡ old.errors))
 
--- what is wrong with the words goes to standard error
+-- what is wrong with the arguments goes to standard error
 pub record IsCorrected (old new : StreamsSeen) (status : ℕ) : Type 0 where
   pub ends : status ≡ 2
   pub text : List ℕ
@@ -94,7 +94,7 @@ EndsWithoutRun usage.Memory old new status = IsSpent old new status
 
 -- ---- the program
 
--- The words ask for a run, and the program ends as that does, with its status and, if there is
+-- The arguments ask for a run, and the program ends as that does, with its status and, if there is
 -- no answer, its line; or they ask for none, and the input is not read.
 pub data Ends {A Z E : Type 0} (shows : LayoutMeant) (given : Result (IntoIter (String A) Z) E)
     (holds : List ℕ → Option (List ℕ)) (old new : StreamsSeen) (status : ℕ) : Type 0 where

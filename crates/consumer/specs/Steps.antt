@@ -2,7 +2,7 @@
 -- definitions.
 pub mod Replaying
 pub mod Files
-pub mod Words
+pub mod Arguments
 pub mod Beginnings
 pub mod Blocks
 pub mod Judging

@@ -44,5 +44,5 @@ pub use Rattle.consumer.specs.declared.plan.Replayed.{Replayed}
 pub use Rattle.consumer.specs.declared.refusal.Refusal.{Refusal}
 pub use Rattle.consumer.specs.declared.refusal.Refusal.TheVariants.{Lex, Parse, Typing, Trace}
 pub use Rattle.consumer.specs.declared.refusal.Refusal.TheVariants.{Group, Memory}
-pub use Rattle.consumer.specs.declared.words.Request.{Request}
-pub use Rattle.consumer.specs.declared.words.UsageFault.{UsageFault}
+pub use Rattle.consumer.specs.declared.arguments.Request.{Request}
+pub use Rattle.consumer.specs.declared.arguments.UsageFault.{UsageFault}

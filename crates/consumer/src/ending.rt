@@ -60,13 +60,9 @@ fn fault_reason(fault: &ConsumeFault) -> Reason
     }
 }
 
-/// The status that the program ends with: the script's own if it exits, 0 if it doesn't, and
-/// otherwise the fault's.
-///
-/// ```text
-/// status_at_end(&Err(ConsumeFault::Write)); // 1
-/// ```
-pub fn status_at_end(answer: &Result<Replayed, ConsumeFault>) -> u8
+// The status that the program ends with: the script's own if it exits, 0 if it doesn't, and
+// otherwise the fault's.
+fn status_at_end(answer: &Result<Replayed, ConsumeFault>) -> u8
     ensures { result ≡ status_at_end answer.now }
 {
     match answer {

@@ -28,8 +28,8 @@ const MAX_UNDIVIDED: usize = MAX_BYTES + 4;
 // workers takes little time beside that.
 const SHARED_BLOCK: usize = 1 << 22;
 
-// How many bytes there are, at least, if several workers read them. The row that isn't whole is
-// not among them.
+// If several workers read, the first bytes of a trace wait for the next block to be read beside
+// them, unless there are this many.
 const MIN_SHARED: usize = SHARED_BLOCK / 2;
 
 /// A script, and what was read of its trace. If the script is refused, no more of it is read.

@@ -13,8 +13,8 @@ ghost use Rattle.consumer.specs.Answer.{IsAnswer, IsSameAnswer, Output, without_
 ghost use Rattle.consumer.specs.Program.{Ends, IsBroken, IsRequest, StreamsSeen, WriteAlike};
 ghost use Rattle.consumer.specs.Plans.{IsDefault, IsGroupedBy, IsMisgrouped};
 ghost use Rattle.consumer.specs.Replaying.{IsOfPlan, IsReplay, output_of, ran_in};
-ghost use Rattle.consumer.specs.Words.{Asks, AsksHelp, IsPlanBy, Mistakes, AskForRun, SetPlan};
-ghost use Rattle.consumer.specs.Words.{file_in, program};
+ghost use Rattle.consumer.specs.Arguments.{Asks, AsksHelp, IsPlanBy, Mistakes, AskForRun, SetPlan};
+ghost use Rattle.consumer.specs.Arguments.{file_in, program};
 
 use replay_core::Layout;
 use std::env::Args;
@@ -101,8 +101,8 @@ pub fn one_plan_runs_alike<L: Layout>()
         → IsReplay L.shows script trace plan (Err (Group f)) → e ≡ f }
 {}
 
-/// Two runs of a program whose words ask for a run, over the same known input and files, end with
-/// the same status and write the same bytes, unless memory ran out, or a stream failed, in one.
+/// Two runs of a program whose arguments ask for a run, over the same known input and files, end
+/// with the same status and write the same bytes, unless memory ran out or a stream failed in one.
 pub fn programs_agree<L: Layout>(given: &io::Result<Args>)
     ensures { IsDeterministic L.shows
         → (holds : List ℕ → Option (List ℕ)) (input : List ℕ) (request : Request)
@@ -124,34 +124,35 @@ pub fn one_grouping()
         → IsGroupedBy plan.groups trace g → IsMisgrouped plan.groups trace e → ⊥ }
 {}
 
-/// Without words a program runs a bundle, and with `-s FILE` the script of that file.
+/// Without arguments a program runs a bundle, and with `-s FILE` the script of that file.
 pub fn runs_accepted()
-    ensures { (words : List (List ℕ)) (file : Option (List ℕ)) → AskForRun words file
-        → (fault_of program words ≡ []) × (file_in (matches_of program words) ≡ file) }
+    ensures { (arguments : List (List ℕ)) (file : Option (List ℕ)) → AskForRun arguments file
+        → (fault_of program arguments ≡ []) × (file_in (matches_of program arguments) ≡ file) }
 {}
 
-/// Without words, and with `-s FILE`, the plan has 4 workers, 16 groups and compiled code.
+/// Without arguments, and with `-s FILE`, the plan has 4 workers, 16 groups and compiled code.
 pub fn plans_by_default()
-    ensures { (words : List (List ℕ)) (file : Option (List ℕ)) (request : Request)
-        → AskForRun words file
-        → Asks words request → IsDefault request.plan }
+    ensures { (arguments : List (List ℕ)) (file : Option (List ℕ)) (request : Request)
+        → AskForRun arguments file
+        → Asks arguments request → IsDefault request.plan }
 {}
 
 /// `-w W`, `-g G` and `-e E`, each alone, set the workers, the groups and the engine to this value,
 /// and leave the others as they are by default.
-pub fn plans_by_words()
-    ensures { (words : List (List ℕ)) (workers groups engine : List ℕ) (request : Request)
-        → SetPlan words workers groups engine → Asks words request
+pub fn plans_by_arguments()
+    ensures { (arguments : List (List ℕ)) (workers groups engine : List ℕ) (request : Request)
+        → SetPlan arguments workers groups engine → Asks arguments request
         → IsPlanBy workers groups engine request.plan }
 {}
 
 /// `-h` and `--help` ask for help.
 pub fn help_is_found()
-    ensures { (words : List (List ℕ)) → AsksHelp words → fault_of program words ≡ DisplayHelp ∷ [] }
+    ensures { (arguments : List (List ℕ)) → AsksHelp arguments
+        → fault_of program arguments ≡ DisplayHelp ∷ [] }
 {}
 
-/// `-s` without a file is a mistake, and so is a word that is no option.
+/// `-s` without a file is a mistake, and so is an argument that is no option.
 pub fn mistakes_are_found()
-    ensures { (words : List (List ℕ)) (kind : ErrorKind) → Mistakes words kind
-        → fault_of program words ≡ kind ∷ [] }
+    ensures { (arguments : List (List ℕ)) (kind : ErrorKind) → Mistakes arguments kind
+        → fault_of program arguments ≡ kind ∷ [] }
 {}

@@ -1,7 +1,8 @@
-//! From the words of a program, a script and a trace to bytes on its streams: what every program
-//! that replays a script does, whatever the layout of its answers.
+//! From the arguments of a program, a script and a trace to bytes on its streams: what every
+//! program that replays a script does, whatever the layout of its answers.
 #![tactic(auto)]
 
+mod arguments;
 mod bundle;
 mod consumer;
 mod consuming;
@@ -17,8 +18,8 @@ mod reason;
 mod refusal;
 mod replaying;
 mod scripts;
-mod words;
 
+pub use arguments::{Help, Request, UsageFault, read_words};
 pub use bundle::{Division, divide};
 pub use consumer::Consumer;
 pub use consuming::ConsumeFault;
@@ -28,4 +29,3 @@ pub use plan::{EngineKind, GroupPlan, Plan, Replayed};
 pub use program::Streams;
 pub use refusal::{Refusal, refusal_status, refusal_text};
 pub use scripts::read_script;
-pub use words::{Help, Request, UsageFault, read_words};

@@ -1,17 +1,17 @@
-//! What the program does with its words, its files and its streams.
+//! What the program does with its arguments, its files and its streams.
 
 ghost use Rattle.std.specs.Prelude.{◌≡◌, IsFalse, MatchResult};
 ghost use Rattle.consumer.specs.Program.{AreUnfailed, Ends, EndsWithoutRun, IsNoRequest, IsRequest};
 ghost use Rattle.consumer.specs.Program.{IsRunOf, streams_seen};
 ghost use Rattle.streams.specs.Watched.{watched_calls, watched_has_failed, watched_inner};
 
+use crate::arguments::{Help, Request, UsageFault, program_arguments, read_words, texts_of};
 use crate::consumer::Consumer;
 use crate::consuming::ConsumeFault;
 use crate::ending::{end, fail};
 use crate::files::{ScriptFiles, script_in};
 use crate::plan::Replayed;
 use crate::refusal::Refusal;
-use crate::words::{Help, Request, UsageFault, program_words, read_words, texts_of};
 use replay_core::Layout;
 use std::alloc::Global;
 use std::env::Args;
@@ -55,7 +55,7 @@ impl<'a, R: Threads + Wait + Sync, L: Layout> Consumer<'a, R, L> {
     /// Does all that a program with this layout does, and returns its exit status.
     ///
     /// ```text
-    /// consumer.program(HELP, &files, words, &mut streams); // 0, with the answer written
+    /// consumer.program(HELP, &files, arguments, &mut streams); // 0, with the answer written
     /// ```
     pub fn program<C: ScriptFiles, F: Feed + Send, S: Sink, E: Sink>(
         &self,
@@ -117,16 +117,17 @@ impl<'a, R: Threads + Wait + Sync, L: Layout> Consumer<'a, R, L> {
     }
 }
 
-// What the program's words ask for.
+// What the program's arguments ask for.
 fn request(alloc: Global, help: Help, given: io::Result<Args>) -> Result<Request, UsageFault>
     ensures { MatchResult result (IsRequest given) (IsNoRequest given) }
 {
-    let words = program_words(alloc, help, given)?;
-    let words = texts_of(alloc, &words)?;
-    read_words(alloc, help, &words)
+    let arguments = program_arguments(alloc, help, given)?;
+    let arguments = texts_of(alloc, &arguments)?;
+    read_words(alloc, help, &arguments)
 }
 
-// Shows the help that was asked for, or says what is wrong with the words, and returns the status.
+// Shows the help that was asked for, or says what is wrong with the arguments, and returns the
+// status.
 fn explain<F: Feed, S: Sink, E: Sink>(
     alloc: Global,
     fault: &UsageFault,

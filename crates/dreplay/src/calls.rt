@@ -241,18 +241,18 @@ fn is_asked(asked: &Asked, wanted: Wanted<'_>) -> bool {
     is_file && plan.workers == workers && is_dealt && plan.engine == engine
 }
 
-// Whether these words ask for this.
-fn ask_for(alloc: Global, words: &[&str], wanted: Wanted<'_>) -> bool {
-    match read_words(alloc, words) {
+// Whether these arguments ask for this.
+fn ask_for(alloc: Global, arguments: &[&str], wanted: Wanted<'_>) -> bool {
+    match read_words(alloc, arguments) {
         Ok(asked) => is_asked(&asked, wanted),
         Err(_) => false,
     }
 }
 
 #[test]
-fn words_name_a_file_and_a_plan(rt: HostRuntime) {
-    for (words, wanted) in ASKED {
-        assert!(rt; ask_for(rt.alloc(), words, wanted), "{words:?}");
+fn arguments_name_a_file_and_a_plan(rt: HostRuntime) {
+    for (arguments, wanted) in ASKED {
+        assert!(rt; ask_for(rt.alloc(), arguments, wanted), "{arguments:?}");
     }
 }
 
@@ -267,15 +267,15 @@ const MISTAKES: [&[&str]; 7] = [
 ];
 
 #[test]
-fn words_out_of_range_are_a_mistake(rt: HostRuntime) {
-    for words in MISTAKES {
-        let asked = read_words(rt.alloc(), words);
+fn arguments_out_of_range_are_a_mistake(rt: HostRuntime) {
+    for arguments in MISTAKES {
+        let asked = read_words(rt.alloc(), arguments);
         assert!(rt; matches!(asked, Err(UsageFault::Usage(_))));
     }
 }
 
 #[test]
-fn words_ask_for_help(rt: HostRuntime) {
+fn arguments_ask_for_help(rt: HostRuntime) {
     let asked = read_words(rt.alloc(), &["--help"]);
     assert!(rt; matches!(asked, Err(UsageFault::Help(_))));
 }

@@ -29,6 +29,6 @@ Exit status:
 dreplay-explain says what a refusal means, and what to do about it.",
 };
 
-/// What is said of a run without words whose standard input is a terminal.
+/// What is said of a run without arguments whose standard input is a terminal.
 pub const AT_A_TERMINAL: &str =
     "dreplay: it reads a bundle that is typed here, until Ctrl-D; --help says what that is";

@@ -3,6 +3,7 @@
 //! the script from the file of the option `-s`.
 #![tactic(auto)]
 
+pub mod arguments;
 #[cfg(test)]
 mod calls;
 pub mod consuming;
@@ -12,8 +13,8 @@ mod help;
 #[cfg(test)]
 mod meeting;
 pub mod replaying;
-pub mod words;
 
+pub use arguments::read_words;
 pub use consumer::{
     ConsumeFault, EngineKind, GroupPlan, Plan, Refusal, Replayed, Request as Asked, UsageFault,
     refusal_status, refusal_text,
@@ -27,7 +28,6 @@ use report::Report;
 use std::env::args;
 use std::io::IsTerminal;
 use std::process::ExitCode;
-pub use words::read_words;
 
 fn main(rt: HostRuntime) -> ExitCode {
     let files = SystemFiles { rt: &rt };
@@ -38,12 +38,12 @@ fn main(rt: HostRuntime) -> ExitCode {
         layout: Report,
         hash_key: HashKey::random(&rt),
     };
-    let words = args(&rt);
-    let is_alone = words.as_ref().is_ok_and(|given| given.len() == 1);
+    let arguments = args(&rt);
+    let is_alone = arguments.as_ref().is_ok_and(|given| given.len() == 1);
     if is_alone && rt.stdin().is_terminal() {
         // Nothing else would tell that it waits. A line that can't be written is no loss.
         let _ = eprintln!(rt; "{AT_A_TERMINAL}");
     }
-    let status = consumer.program(HELP, &files, words, &mut streams);
+    let status = consumer.program(HELP, &files, arguments, &mut streams);
     ExitCode::from(status)
 }

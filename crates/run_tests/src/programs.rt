@@ -1,4 +1,5 @@
-//! The program over words, a file and streams in memory: its status and the bytes of both outputs.
+//! The program over arguments, a file and streams in memory: its status and the bytes of both
+//! outputs.
 
 use crate::replays::{BUNDLE, HELP, SCRIPT, SHOWN, TRACE, reporting};
 use consumer::{ScriptFiles, Streams};
@@ -67,24 +68,24 @@ impl Ended {
     }
 }
 
-// Adds a word.
-fn add_word(alloc: Global, all: &mut Vec<String>, word: &str) -> Result<(), AllocError> {
-    let word = String::from_str(alloc, word)?;
-    all.push(word)?;
+// Adds an argument.
+fn add_argument(alloc: Global, all: &mut Vec<String>, argument: &str) -> Result<(), AllocError> {
+    let argument = String::from_str(alloc, argument)?;
+    all.push(argument)?;
     Ok(())
 }
 
-// The words of a process, of which the first is the program's name.
-fn given(alloc: Global, words: &[&str]) -> Result<Args, AllocError> {
+// The arguments of a process, of which the first is the program's name.
+fn given(alloc: Global, arguments: &[&str]) -> Result<Args, AllocError> {
     let mut all = Vec::new(alloc);
-    add_word(alloc, &mut all, "dreplay")?;
-    for word in words {
-        add_word(alloc, &mut all, word)?;
+    add_argument(alloc, &mut all, "dreplay")?;
+    for argument in arguments {
+        add_argument(alloc, &mut all, argument)?;
     }
     Ok(all.into_iter())
 }
 
-// Runs the program, given these words, over this input.
+// Runs the program, given these arguments, over this input.
 fn run_program<R: AllocGlobal + Threads + Wait + Sync>(
     rt: &R,
     given: io::Result<Args>,
@@ -107,15 +108,15 @@ fn run_program<R: AllocGlobal + Threads + Wait + Sync>(
     }
 }
 
-// Whether the program, given these words, ends so over this input.
+// Whether the program, given these arguments, ends so over this input.
 fn ends<R: AllocGlobal + Threads + Wait + Sync>(
     rt: &R,
-    words: &[&str],
+    arguments: &[&str],
     input: &[u8],
     calls: GoodCalls,
     (status, output, errors): (u8, &[u8], &[u8]),
 ) -> Result<bool, AllocError> {
-    let given = given(rt.alloc(), words)?;
+    let given = given(rt.alloc(), arguments)?;
     let ended = run_program(rt, Ok(given), input, calls);
     Ok(ended.is(status, output, errors))
 }
@@ -126,7 +127,7 @@ const WRITE_FAILED: &[u8] = b"dreplay: write failed\n";
 
 const LEX_REFUSED: &[u8] = b"dreplay: script refused: Lex 4 line 2\n";
 
-// Words, input, and the status, output and errors of the end.
+// Arguments, input, and the status, output and errors of the end.
 const ENDS: [(&[&str], &[u8], u8, &[u8], &[u8]); 11] = [
     (&[], BUNDLE, 0, SHOWN, b""),
     (&["-s", "s.d"], TRACE, 0, SHOWN, b""),
@@ -182,16 +183,16 @@ For more information, try '--help'.\n",
 ];
 
 #[test]
-fn program_ends_as_its_words_and_input_ask(rt: HostRuntime) -> Result<(), Fail> {
-    for (words, input, status, output, errors) in ENDS {
-        let is_end = ends(&rt, words, input, NONE_FAILS, (status, output, errors))?;
-        assert!(rt; is_end, "{words:?}");
+fn program_ends_as_its_arguments_and_input_ask(rt: HostRuntime) -> Result<(), Fail> {
+    for (arguments, input, status, output, errors) in ENDS {
+        let is_end = ends(&rt, arguments, input, NONE_FAILS, (status, output, errors))?;
+        assert!(rt; is_end, "{arguments:?}");
     }
     Ok(())
 }
 
 #[test]
-fn program_says_that_words_are_no_text(rt: HostRuntime) {
+fn program_says_that_arguments_are_no_text(rt: HostRuntime) {
     let given = Err(io::Error::from(ErrorKind::InvalidData));
     let ended = run_program(&rt, given, BUNDLE, NONE_FAILS);
     let said = b"error: a word is not UTF-8\n\nUsage: dreplay [OPTIONS]\n\n\
@@ -257,21 +258,21 @@ fn program_keeps_its_status_where_the_errors_fail(rt: HostRuntime) -> Result<(),
 const HELP_SHOWN: &[u8] = b"Replays a D script over a recorded trace\n\n\
 Usage: dreplay [OPTIONS]\n\nOptions:\n";
 
-// Whether the program, given this word, shows the help and nothing else.
+// Whether the program, given this argument, shows the help and nothing else.
 fn shows_help<R: AllocGlobal + Threads + Wait + Sync>(
     rt: &R,
-    word: &str,
+    argument: &str,
 ) -> Result<bool, AllocError> {
-    let given = given(rt.alloc(), &[word])?;
+    let given = given(rt.alloc(), &[argument])?;
     let ended = run_program(rt, Ok(given), BUNDLE, NONE_FAILS);
     Ok(ended.output.starts_with(HELP_SHOWN) && ended.is(0, &ended.output, b""))
 }
 
 #[test]
 fn program_shows_help(rt: HostRuntime) -> Result<(), Fail> {
-    for word in ["-h", "--help"] {
-        let shows_help = shows_help(&rt, word)?;
-        assert!(rt; shows_help, "{word}");
+    for argument in ["-h", "--help"] {
+        let shows_help = shows_help(&rt, argument)?;
+        assert!(rt; shows_help, "{argument}");
     }
     Ok(())
 }

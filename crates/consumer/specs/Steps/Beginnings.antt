@@ -8,7 +8,7 @@ abbrev pub ArePassed : List ℕ → Type 0
 ArePassed front = (rest script trace : List ℕ) → Divides rest script trace
     → Divides (front ++ rest) (front ++ script) trace
 
--- the first `count` bytes are whole lines, none of which divides, and the others are within a line
+-- the first `count` bytes are whole lines, none of which divides, and the rest is part of a line
 pub record IsUndivided (bytes : List ℕ) (count : ℕ) : Type 0 where
   pub few : count ≤ length bytes
   pub passed : ArePassed (take count bytes)

@@ -1,5 +1,0 @@
-use Rattle.consumer.proofs.CommandLine.{plans_named}
-use Rattle.consumer.proofs.laws.plans_by_words.Goals as goal
-
-pub returns : goal.returns
-returns c = plans_named

@@ -1,4 +1,0 @@
-use Rattle.consumer.proofs.words.engine_option.Goals as goal
-
-pub returns : goal.returns
-returns c = c.with_default.ensures _ c.option.ensures
