@@ -180,15 +180,15 @@ pub text_is_line : (text : ℕ × List ℕ) → EndsOnce (text_line text)
 text_is_line text =
     after (both (both (both (literal (codes "{\"kind\":\"text\",\"firing\":") refl) (decimal_quiet text.0)) (literal (codes ",\"text\":") refl)) (text_quiet text.1)) closing
 
-head_quiet : (place : ℕ) (name : List ℕ) (function : AggFn) → Quiet (entry_head place name function)
-head_quiet place name function =
-    both (both (both (both (both (both (literal (codes "{\"kind\":\"entry\",\"aggregation\":") refl) (decimal_quiet place))
+head_quiet : (index : ℕ) (name : List ℕ) (function : AggFn) → Quiet (entry_head index name function)
+head_quiet index name function =
+    both (both (both (both (both (both (literal (codes "{\"kind\":\"entry\",\"aggregation\":") refl) (decimal_quiet index))
     (literal (codes ",\"name\":") refl)) (text_quiet (written_name name))) (literal (codes ",\"function\":\"") refl)) (word_quiet function))
     (literal (codes "\",\"key\":") refl)
 
-pub entry_is_line : (place : ℕ) (name : List ℕ) (function : AggFn) (entry : Entry) → EndsOnce (entry_line (entry_head place name function) entry)
-entry_is_line place name function entry =
-    after (both (both (both (head_quiet place name function) (array_quiet part_value part_quiet entry.0)) (literal (codes ",\"value\":") refl)) (held_quiet entry.1)) closing
+pub entry_is_line : (index : ℕ) (name : List ℕ) (function : AggFn) (entry : Entry) → EndsOnce (entry_line (entry_head index name function) entry)
+entry_is_line index name function entry =
+    after (both (both (both (head_quiet index name function) (array_quiet part_value part_quiet entry.0)) (literal (codes ",\"value\":") refl)) (held_quiet entry.1)) closing
 
 pub last_is_line : (exit : Option (ℕ × ℕ)) (firings : ℕ) → EndsOnce (last_line exit firings)
 last_is_line exit firings =

@@ -11,7 +11,7 @@ use Rattle.d_types.specs.declared.typed.TypedAggregation.{TypedAggregation}
 use Rattle.d_types.specs.Typed.{Agg, Aggs, agg_of, aggs_of}
 use Rattle.data_lines.specs.Lines.{first_line, last_line, text_line}
 use Rattle.data_lines.specs.Runs.{IsData, HasItsEntries, WholeRun, listed_lines}
-use Rattle.data_lines.specs.Runs.{place_and_aggregation}
+use Rattle.data_lines.specs.Runs.{index_and_aggregation}
 use Rattle.data_lines.specs.Steps.Runs.{AppendsListed}
 
 module _ (contributions : List Contribution) where
@@ -28,8 +28,8 @@ module _ (contributions : List Contribution) where
   listed_more xs ys before between after first second = record {
     listed = first.listed ++ second.listed;
     are = record {
-      each = map-append place_and_aggregation first.listed second.listed
-          ∙ ap (λ l. l ++ map place_and_aggregation second.listed) first.are.each ∙ ap (λ l. xs ++ l) second.are.each;
+      each = map-append index_and_aggregation first.listed second.listed
+          ∙ ap (λ l. l ++ map index_and_aggregation second.listed) first.are.each ∙ ap (λ l. xs ++ l) second.are.each;
       entries = All-append (HasItsEntries contributions) first.listed second.listed first.are.entries second.are.entries;
     };
     joined = second.joined ∙ ap (λ l. l ++ flat_map listed_lines second.listed) first.joined
@@ -39,23 +39,23 @@ module _ (contributions : List Contribution) where
 
 -- ---- an aggregation of the script
 
--- its function is that of the table's at its place
-pub function_at : (all : List TypedAggregation) (place : ℕ) (a : TypedAggregation) → place < length all → a ≡ get_or all place a
-    → slice_get (map (λ a. a.function) (aggs_of all)) place ≡ Some a.function
-function_at [] place a within is = absurd (omega arith)
+-- its function is that of the table's at its index
+pub function_at : (all : List TypedAggregation) (index : ℕ) (a : TypedAggregation) → index < length all → a ≡ get_or all index a
+    → slice_get (map (λ a. a.function) (aggs_of all)) index ≡ Some a.function
+function_at [] index a within is = absurd (omega arith)
 function_at (x ∷ all) zero a within is = ap (λ a. Some a.function) (sym is)
-function_at (x ∷ all) (suc place) a within is = function_at all place a (omega arith) is
+function_at (x ∷ all) (suc index) a within is = function_at all index a (omega arith) is
 
--- one more, with its place
-pub take_numbered : (all : List TypedAggregation) (place : ℕ) (a : TypedAggregation) → place < length all → a ≡ get_or all place a
-    → take (place + 1) (enumerate_from 0 (aggs_of all)) ≡ take place (enumerate_from 0 (aggs_of all)) ++ (place, agg_of a) ∷ []
-take_numbered all place a within is =
+-- one more, with its index
+pub take_numbered : (all : List TypedAggregation) (index : ℕ) (a : TypedAggregation) → index < length all → a ≡ get_or all index a
+    → take (index + 1) (enumerate_from 0 (aggs_of all)) ≡ take index (enumerate_from 0 (aggs_of all)) ++ (index, agg_of a) ∷ []
+take_numbered all index a within is =
     let long = length-map all agg_of in
     let numbers = length-enumerate_from 0 (aggs_of all) in
-    take_more (enumerate_from 0 (aggs_of all)) place (place, agg_of a) (omega arith)
-    ∙ ap (λ p. take place (enumerate_from 0 (aggs_of all)) ++ p ∷ []) (get_or-enumerate_from 0 (aggs_of all) place (place, agg_of a) (omega arith)
-    ∙ ap (λ n. (n, get_or (aggs_of all) place (agg_of a))) (let e : 0 + place ≡ place = omega arith in e)
-    ∙ ap (λ b. (place, b)) (get_or-map agg_of all place a (agg_of a) within ∙ ap agg_of (sym is)))
+    take_more (enumerate_from 0 (aggs_of all)) index (index, agg_of a) (omega arith)
+    ∙ ap (λ p. take index (enumerate_from 0 (aggs_of all)) ++ p ∷ []) (get_or-enumerate_from 0 (aggs_of all) index (index, agg_of a) (omega arith)
+    ∙ ap (λ n. (n, get_or (aggs_of all) index (agg_of a))) (let e : 0 + index ≡ index = omega arith in e)
+    ∙ ap (λ b. (index, b)) (get_or-map agg_of all index a (agg_of a) within ∙ ap agg_of (sym is)))
 
 -- ---- all lines
 

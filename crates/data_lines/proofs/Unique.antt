@@ -8,28 +8,28 @@ use Rattle.report.specs.Listing.{IsListing}
 use Rattle.report.proofs.Listings.{listing_exists}
 use Rattle.report.proofs.Unique.{one_listing}
 use Rattle.data_lines.specs.Lines.{first_line, last_line, text_line}
-use Rattle.data_lines.specs.Runs.{AreListed, IsData, HasItsEntries, Listed, WholeRun, listed_lines, place_and_aggregation}
+use Rattle.data_lines.specs.Runs.{AreListed, IsData, HasItsEntries, Listed, WholeRun, listed_lines, index_and_aggregation}
 
--- the same aggregation at the same place has the same entries
-same_one : (contributions : List Contribution) (x y : Listed) → place_and_aggregation x ≡ place_and_aggregation y → HasItsEntries contributions x → HasItsEntries contributions y → x ≡ y
+-- the same aggregation at the same index has the same entries
+same_one : (contributions : List Contribution) (x y : Listed) → index_and_aggregation x ≡ index_and_aggregation y → HasItsEntries contributions x → HasItsEntries contributions y → x ≡ y
 same_one contributions x y same x_is y_is =
-    let place : x.place ≡ y.place = ap (λ p. p.0) same in
+    let index : x.index ≡ y.index = ap (λ p. p.0) same in
     let aggregation : x.aggregation ≡ y.aggregation = ap (λ p. p.1) same in
-    let x_there : IsListing y.aggregation.function y.place contributions x.entries =
+    let x_there : IsListing y.aggregation.function y.index contributions x.entries =
     subst (λ p. IsListing p.1.function p.0 contributions x.entries) same x_is in
-    let entries : x.entries ≡ y.entries = one_listing y.aggregation.function y.place contributions x.entries y.entries x_there y_is in
-    ap (λ n. record { place = n; aggregation = x.aggregation; entries = x.entries }) place
-    ∙ ap (λ a. record { place = y.place; aggregation = a; entries = x.entries }) aggregation
-    ∙ ap (λ es. record { place = y.place; aggregation = y.aggregation; entries = es }) entries
+    let entries : x.entries ≡ y.entries = one_listing y.aggregation.function y.index contributions x.entries y.entries x_there y_is in
+    ap (λ n. record { index = n; aggregation = x.aggregation; entries = x.entries }) index
+    ∙ ap (λ a. record { index = y.index; aggregation = a; entries = x.entries }) aggregation
+    ∙ ap (λ es. record { index = y.index; aggregation = y.aggregation; entries = es }) entries
 
-same_all : (contributions : List Contribution) (xs ys : List Listed) → map place_and_aggregation xs ≡ map place_and_aggregation ys → All (HasItsEntries contributions) xs → All (HasItsEntries contributions) ys → xs ≡ ys
+same_all : (contributions : List Contribution) (xs ys : List Listed) → map index_and_aggregation xs ≡ map index_and_aggregation ys → All (HasItsEntries contributions) xs → All (HasItsEntries contributions) ys → xs ≡ ys
 same_all contributions [] [] same x_are y_are = refl
 same_all contributions [] (y ∷ ys) same x_are y_are = absurd cc
 same_all contributions (x ∷ xs) [] same x_are y_are = absurd cc
 same_all contributions (x ∷ xs) (y ∷ ys) same x_are y_are =
     let P = HasItsEntries contributions in
-    let first : place_and_aggregation x ≡ place_and_aggregation y = cc in
-    let rest : map place_and_aggregation xs ≡ map place_and_aggregation ys = cc in
+    let first : index_and_aggregation x ≡ index_and_aggregation y = cc in
+    let rest : map index_and_aggregation xs ≡ map index_and_aggregation ys = cc in
     ap (λ l. l ∷ xs) (same_one contributions x y first (All-head P x xs x_are) (All-head P y ys y_are))
     ∙ ap (λ l. y ∷ l) (same_all contributions xs ys rest (All-tail P x xs x_are) (All-tail P y ys y_are))
 
@@ -44,7 +44,7 @@ listed_exists : (contributions : List Contribution) (aggregations : List (ℕ ×
 listed_exists contributions [] = ([], record { each = refl; entries = All-nil (HasItsEntries contributions) })
 listed_exists contributions (a ∷ aggregations) =
     let here = listing_exists a.1.function a.0 contributions in
-    let one : Listed = record { place = a.0; aggregation = a.1; entries = here.0 } in
+    let one : Listed = record { index = a.0; aggregation = a.1; entries = here.0 } in
     let rest = listed_exists contributions aggregations in (
       one ∷ rest.0,
       record {

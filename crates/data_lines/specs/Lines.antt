@@ -40,10 +40,10 @@ function_word (Lquantize r) = codes "lquantize"
 abbrev pub written_name : List ℕ → List ℕ
 written_name name = if bytes_eq name (codes "_") then codes "@" else 64 ∷ name
 
--- what the lines of an aggregation begin with: its place in the script, its name and its function
+-- what the lines of an aggregation begin with: its index in the script, its name and its function
 abbrev pub entry_head : ℕ → List ℕ → AggFn → List ℕ
-entry_head place name function =
-    codes "{\"kind\":\"entry\",\"aggregation\":" ++ decimal place ++ codes ",\"name\":"
+entry_head index name function =
+    codes "{\"kind\":\"entry\",\"aggregation\":" ++ decimal index ++ codes ",\"name\":"
     ++ text_value (written_name name) ++ codes ",\"function\":\"" ++ function_word function
     ++ codes "\",\"key\":"
 

@@ -24,29 +24,29 @@ run_from whole contributions = record {
   firings = sum_by (λ group. length group.items) whole.ran.items;
 }
 
--- an aggregation of the script with its place, and its entries in order
+-- an aggregation of the script with its index, and its entries in order
 pub record Listed : Type 0 where
-  pub place : ℕ
+  pub index : ℕ
   pub aggregation : Agg
   pub entries : List Entry
 
 -- without the entries
-abbrev pub place_and_aggregation : Listed → ℕ × Agg
-place_and_aggregation l = (l.place, l.aggregation)
+abbrev pub index_and_aggregation : Listed → ℕ × Agg
+index_and_aggregation l = (l.index, l.aggregation)
 
 -- the entries are those that the contributions give the aggregation, in ascending order
 abbrev pub HasItsEntries : List Contribution → Listed → Type 0
-HasItsEntries contributions l = IsListing l.aggregation.function l.place contributions l.entries
+HasItsEntries contributions l = IsListing l.aggregation.function l.index contributions l.entries
 
 -- the entries of an aggregation, a line each
 abbrev pub listed_lines : Listed → List ℕ
 listed_lines l =
-    flat_map (entry_line (entry_head l.place l.aggregation.name l.aggregation.function)) l.entries
+    flat_map (entry_line (entry_head l.index l.aggregation.name l.aggregation.function)) l.entries
 
 -- each of these aggregations once, in order, with its entries
 pub record AreListed (aggregations : List (ℕ × Agg)) (contributions : List Contribution)
     (listed : List Listed) : Type 0 where
-  pub each : map place_and_aggregation listed ≡ aggregations
+  pub each : map index_and_aggregation listed ≡ aggregations
   pub entries : All (HasItsEntries contributions) listed
 
 -- the first line, the texts, the entries of each aggregation of the script, and the last line

@@ -31,8 +31,8 @@ pub fn each_run_has_data()
 pub fn lines_end_once()
     ensures first { EndsOnce first_line }
     ensures text { (text : ℕ × List ℕ) → EndsOnce (text_line text) }
-    ensures entry { (place : ℕ) (name : List ℕ) (function : AggFn) (entry : Entry)
-        → EndsOnce (entry_line (entry_head place name function) entry) }
+    ensures entry { (index : ℕ) (name : List ℕ) (function : AggFn) (entry : Entry)
+        → EndsOnce (entry_line (entry_head index name function) entry) }
     ensures last { (exit : Option (ℕ × ℕ)) (firings : ℕ) → EndsOnce (last_line exit firings) }
 {}
 

@@ -64,15 +64,15 @@ fn put_name(alloc: Global, out: &mut Vec<u8>, name: &[u8]) -> Result<(), AllocEr
 fn put_entry_head(
     alloc: Global,
     out: &mut Vec<u8>,
-    place: usize,
+    index: usize,
     name: &[u8],
     function: AggFn,
 ) -> Result<(), AllocError>
     ensures { OnOk result
-        (out.new.items ≡ out.old.items ++ spec.entry_head place name.now function) }
+        (out.new.items ≡ out.old.items ++ spec.entry_head index name.now function) }
 {
     out.extend_from_slice(b"{\"kind\":\"entry\",\"aggregation\":")?;
-    put_number(out, place)?;
+    put_number(out, index)?;
     out.extend_from_slice(b",\"name\":")?;
     put_name(alloc, out, name)?;
     out.extend_from_slice(b",\"function\":\"")?;
@@ -83,14 +83,14 @@ fn put_entry_head(
 /// What the lines of an aggregation begin with.
 pub fn entry_head(
     alloc: Global,
-    place: usize,
+    index: usize,
     name: &[u8],
     function: AggFn,
 ) -> Result<Vec<u8>, AllocError>
-    ensures { IfOk result (λ head. head.items ≡ spec.entry_head place name.now function) }
+    ensures { IfOk result (λ head. head.items ≡ spec.entry_head index name.now function) }
 {
     let mut head = Vec::new(alloc);
-    put_entry_head(alloc, &mut head, place, name, function)?;
+    put_entry_head(alloc, &mut head, index, name, function)?;
     Ok(head)
 }
 

@@ -73,8 +73,8 @@ fn put_aggregations(
         → OnOk result (AppendsListed (enumerate_from 0 (aggs_of aggregations.now)) contributions
         out.old.items out.new.items) }
 {
-    for (place, aggregation) in aggregations.iter().enumerate() {
-        put_aggregation(alloc, out, place, aggregation, table)?;
+    for (index, aggregation) in aggregations.iter().enumerate() {
+        put_aggregation(alloc, out, index, aggregation, table)?;
     }
     Ok(())
 }
@@ -83,22 +83,22 @@ fn put_aggregations(
 fn put_aggregation(
     alloc: Global,
     out: &mut Vec<u8>,
-    place: usize,
+    index: usize,
     aggregation: &TypedAggregation,
     table: &AggTable,
 ) -> Result<(), AllocError>
-    requires { slice_get (functions_of table.now) place ≡ Some aggregation.now.function }
+    requires { slice_get (functions_of table.now) index ≡ Some aggregation.now.function }
     ensures { (contributions : List Contribution) → StandsFor table.now contributions
-        → OnOk result (AppendsListed ((place, agg_of aggregation.now) ∷ []) contributions
+        → OnOk result (AppendsListed ((index, agg_of aggregation.now) ∷ []) contributions
         out.old.items out.new.items) }
 {
     let head = entry_head(
         alloc,
-        place,
+        index,
         aggregation.name.as_slice(),
         aggregation.function,
     )?;
-    let entries = listing(alloc, table, place)?;
+    let entries = listing(alloc, table, index)?;
     put_entries(out, &head, &entries)
 }
 

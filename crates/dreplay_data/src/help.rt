@@ -21,6 +21,6 @@ Examples:
 Exit status and refusals are those of dreplay.",
 };
 
-/// What is said of a run without words whose standard input is a terminal.
+/// What is said of a run without arguments whose standard input is a terminal.
 pub const AT_A_TERMINAL: &str =
     "dreplay-data: it reads a bundle that is typed here, until Ctrl-D; --help says what that is";

@@ -1,5 +1,6 @@
 //! Replays a D script over a recorded trace of probe firings, and writes what the run made to
-//! standard output as JSON Lines, for other programs. It takes the same words and input as dreplay.
+//! standard output as JSON Lines, for other programs. It takes the same arguments and input as
+//! dreplay.
 #![tactic(auto)]
 
 mod help;
@@ -21,12 +22,12 @@ fn main(rt: HostRuntime) -> ExitCode {
         layout: DataLines,
         hash_key: HashKey::random(&rt),
     };
-    let words = args(&rt);
-    let is_alone = words.as_ref().is_ok_and(|given| given.len() == 1);
+    let arguments = args(&rt);
+    let is_alone = arguments.as_ref().is_ok_and(|given| given.len() == 1);
     if is_alone && rt.stdin().is_terminal() {
         // Nothing else would tell that it waits. A line that can't be written is no loss.
         let _ = eprintln!(rt; "{AT_A_TERMINAL}");
     }
-    let status = consumer.program(HELP, &files, words, &mut streams);
+    let status = consumer.program(HELP, &files, arguments, &mut streams);
     ExitCode::from(status)
 }

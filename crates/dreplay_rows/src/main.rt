@@ -6,8 +6,8 @@ use std::env::args;
 use std::io::ErrorKind;
 use std::process::ExitCode;
 
-// The status if reading, writing or memory failed, if there are words that it doesn't take, and if
-// a line isn't known.
+// The status if reading, writing or memory failed, if there are arguments that it doesn't take, and
+// if a line isn't known.
 const FAILED: u8 = 1;
 
 const MISTAKE: u8 = 2;
@@ -23,8 +23,8 @@ takes any recording, and runs this program where it can.
 ";
 
 fn main(rt: HostRuntime) -> ExitCode {
-    let word = match args(&rt) {
-        Ok(mut words) => words.nth(1),
+    let argument = match args(&rt) {
+        Ok(mut arguments) => arguments.nth(1),
         Err(error) if error.kind() == ErrorKind::OutOfMemory => {
             let _ = eprintln!(rt; "dreplay-rows: out of memory");
             return ExitCode::from(FAILED);
@@ -34,8 +34,8 @@ fn main(rt: HostRuntime) -> ExitCode {
             return ExitCode::from(MISTAKE);
         }
     };
-    if let Some(word) = word {
-        let is_help = word.as_str() == "-h" || word.as_str() == "--help";
+    if let Some(argument) = argument {
+        let is_help = argument.as_str() == "-h" || argument.as_str() == "--help";
         let told = if is_help {
             print!(rt; "{HELP}")
         } else {

@@ -4,12 +4,10 @@ use crate::arguments::{Named, by_names, numbers};
 use crate::bytes::{after_spaces, cut, is_visible};
 use crate::errors::error_number;
 use crate::ids::Id;
+use crate::limits::MAX_DURATION;
 use crate::numbers::{integer, nanoseconds};
 use crate::row::Arguments;
 use crate::words::Word;
-
-// The digits of the seconds of a duration.
-const MAX_DURATION: usize = 9;
 
 /// What a call returned, and how long it took.
 #[derive(Clone, Copy)]

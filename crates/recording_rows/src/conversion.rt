@@ -8,6 +8,7 @@ use crate::arguments::numbers;
 use crate::call::{Call, Change, call_of, is_named};
 use crate::fault::{ConvertFault, End, Halt};
 use crate::ids::Id;
+use crate::limits::{MAX_BETWEEN, MAX_BYTES};
 use crate::line::{Event, Line};
 use crate::processes::Processes;
 use crate::resumed::{Rest, rests};
@@ -19,12 +20,6 @@ use std::alloc::{AllocError, Global};
 use std::collections::BTreeMap;
 use std::io;
 use std::io::{ErrorKind, Read, Write};
-
-/// The most bytes of a recording that are held. A larger one stops after them.
-pub const MAX_BYTES: u64 = 1 << 27;
-
-// The most lines between the lines of a call that begins a thread or a process.
-const MAX_BETWEEN: usize = 40_000;
 
 /// Reads a recording to its end, and writes the rows of its lines up to the first that isn't known.
 /// What is written is a trace, whatever was read. A recording is held whole, and a block of the

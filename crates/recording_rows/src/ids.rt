@@ -2,8 +2,7 @@
 
 ghost use Rattle.std.specs.Prelude.{◌≡◌, ◌≤◌, IfSome};
 
-// The greatest of them.
-const MAX_ID: u64 = 0x7FFF_FFFF;
+use crate::limits::MAX_ID;
 
 /// The number of a thread or a process: a positive one of 31 bits.
 #[derive(Clone, Copy)]

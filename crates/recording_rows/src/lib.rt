@@ -17,6 +17,7 @@ mod errors;
 mod fault;
 mod fields;
 mod ids;
+mod limits;
 mod line;
 mod marks;
 mod numbers;
@@ -26,5 +27,6 @@ mod row;
 mod rows;
 mod words;
 
-pub use conversion::{MAX_BYTES, convert};
+pub use conversion::convert;
 pub use fault::{ConvertFault, End};
+pub use limits::MAX_BYTES;

@@ -2,16 +2,9 @@
 
 use crate::bytes::{after_spaces, cut, is_visible};
 use crate::ids::Id;
+use crate::limits::{MAX_NAME, MAX_SECONDS, MAX_THREAD};
 use crate::numbers::{decimal, nanoseconds};
 use crate::words::Word;
-
-// The digits of a thread's number, and of the seconds of a time.
-const MAX_THREAD: usize = 9;
-
-const MAX_SECONDS: usize = 11;
-
-// The letters of a system call's name.
-const MAX_NAME: usize = 81;
 
 /// What a line is of.
 #[derive(Clone, Copy)]

@@ -1,6 +1,7 @@
 //! Numbers as strace shows them: each function reads those at the front, and gives what comes after
 //! them.
 
+use crate::limits::{MAX_DECIMAL, MAX_HEXADECIMAL};
 use core::dec2flt::read_digits;
 
 // The digits of a fraction of a second that there can be.
@@ -19,12 +20,6 @@ const SCALES: [u64; 10] = [
     10,
     1,
 ];
-
-// The most digits of a number that fits in 64 bits whatever they are: decimal ones, and hexadecimal
-// ones.
-const MAX_DECIMAL: usize = 19;
-
-const MAX_HEXADECIMAL: usize = 16;
 
 /// The number that decimal digits write: one at least, and at most `most`.
 #[inline(always)]

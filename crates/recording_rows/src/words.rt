@@ -3,8 +3,7 @@
 ghost use Rattle.std.specs.Prelude.{◌≡◌, ◌↔◌, EachIndex, IfSome, IsTrue, slice_index, true};
 ghost use Rattle.recording_rows.specs.Words.{is_plain_byte as is_plain, is_word};
 
-// The most bytes of a text of a trace.
-const MAX_TEXT: usize = 255;
+use firings::MAX_TEXT;
 
 /// A text of a trace without quotes, commas and what can't be seen.
 #[derive(Clone, Copy)]

@@ -12,12 +12,12 @@ use Rattle.data_lines.proofs.rendering.put_aggregation.Goals as goal
 pub returns : goal.returns
 returns c contributions stands =
     let old = c.args.out.now.items in
-    let place = c.args.place in
+    let index = c.args.index in
     let aggregation = agg_of c.args.aggregation.now in
-    let head = entry_head place aggregation.name aggregation.function in
+    let head = entry_head index aggregation.name aggregation.function in
     let entries = c.in_ok-entries.entries.items in
-    let one : Listed = record { place = place; aggregation = aggregation; entries = map deref_pair entries } in
-    let lent : c.deref.result.now ≡ head = c.deref.ensures.value ∙ c.in_ok-head.ensures ∙ ap (λ name. entry_head place name aggregation.function) c.as_slice.ensures in
+    let one : Listed = record { index = index; aggregation = aggregation; entries = map deref_pair entries } in
+    let lent : c.deref.result.now ≡ head = c.deref.ensures.value ∙ c.in_ok-head.ensures ∙ ap (λ name. entry_head index name aggregation.function) c.as_slice.ensures in
     on_ok_weaker c.put_entries.result (λ put. record {
       listed = one ∷ [];
       are = record {
