@@ -25,8 +25,8 @@ make -s -j4
 ROWS_OF_A_FILE = 3_000
 
 
-def parser(doc):
-    """A parser of a benchmark's command line, with its doc as help."""
+def make_parser(doc):
+    """Makes a parser of a benchmark's command line, with its doc as help."""
     return argparse.ArgumentParser(
         description=doc,
         usage=argparse.SUPPRESS,
@@ -67,7 +67,7 @@ def write_bundle(question, trace, path):
         shutil.copyfileobj(rows, file)
 
 
-def by_hand(room):
+def build_by_hand(room):
     """Builds the program that is written by hand, and returns its path; none without rustc."""
     if not shutil.which("rustc"):
         return None
@@ -77,8 +77,8 @@ def by_hand(room):
     return f"{room}/by_hand"
 
 
-def others(question, written):
-    """Who else answers a question, with the words that run each; mawk comes first."""
+def list_others(question, written):
+    """Lists who else answers a question, with the words that run each; mawk comes first."""
     awk = ["-F,", "-f", f"{HERE}/questions/{question}.awk"]
     found = {"mawk": ["mawk", *awk]}
     if shutil.which("gawk"):
@@ -88,9 +88,9 @@ def others(question, written):
     return found
 
 
-def facts_of(output):
-    """What an answer of dreplay says, as mawk writes it, a line each: a text; keys and a value;
-    keys, a bucket's label and its count, if it isn't 0."""
+def read_facts(output):
+    """Reads what an answer of dreplay says, as mawk writes it, a line each: a text; keys and a
+    value; keys, a bucket's label and its count, if it isn't 0."""
     facts, keys = [], []
     for line in output.splitlines():
         label, bar, rest = line.partition(b" |")

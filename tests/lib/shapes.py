@@ -19,11 +19,13 @@ OF_WAYS = re.compile(r"returns|loop|decreases|invariant_of")
 
 @dataclass
 class Shape:
-    """What a function calls, in order, its goals of each way, and all names of goals and places."""
+    """What a function calls, in order, its goals of each way, all names of goals and places, and by
+    the name of each place those of the places from which it can be named."""
 
     calls: list
     ways: list
     names: set
+    below: dict
 
 
 def read_proofs(crate, function):
@@ -58,8 +60,20 @@ def shape_of(entry):
     goals = [it[1] for it in entry["needs"]]
     places = entry["places"]
     calls = [it[3] for it in places if it[3]]
-    names = {*goals, *(re.sub(r"-1$", "", it[2][1]) for it in places)}
-    return Shape(calls, [it for it in goals if OF_WAYS.match(it)], names - {""})
+    below = names_below(places)
+    return Shape(calls, [it for it in goals if OF_WAYS.match(it)], {*goals, *below}, below)
+
+
+def names_below(places):
+    """Returns the names of places, each with those of the places from which it can be named: what
+    a branch does can't be named behind it."""
+    above, below = {}, {}
+    for at, before, names, *_ in places:
+        name = re.sub(r"-1$", "", names[1])
+        above[at] = above.get(before, set()) | {name} - {""}
+        for it in above[at]:
+            below.setdefault(it, set()).add(name)
+    return below
 
 
 def shapes_of(rt, crate, texts):
@@ -82,6 +96,11 @@ def shapes_of(rt, crate, texts):
             entries = json.load(file)
     paths = {it: path_of(it, crate.name) for it in entries if "needs" in entries[it]}
     return {path: shape_of(entries[it]) for it, path in paths.items() if path}
+
+
+def is_hidden(name, was, now):
+    """Returns whether a place can't be named any more from one from which it could be."""
+    return bool((was.below[name] & {*now.below}) - now.below.get(name, set()))
 
 
 def is_cited(name, text):
@@ -108,4 +127,7 @@ def tell_new_shape(function, old, new, text):
         gone = sorted(it for it in was.names - now.names if is_cited(it, text))
         if gone:
             return f"names that proofs cite: {' '.join(gone)}"
+        hidden = sorted(it for it in was.below if is_hidden(it, was, now) and is_cited(it, text))
+        if hidden:
+            return f"names in a branch that proofs cite behind it: {' '.join(hidden)}"
     return ""

@@ -449,9 +449,9 @@ USAGE = Refusal(
     "error:",
     "",
     (
-        "The command line is wrong: a word that is no option, an option without its value or given"
-        " twice, a number of workers outside 1 to 16 or of groups outside 1 to 4096, an engine"
-        " other than `dif` and `tree`, or a word that isn't UTF-8."
+        "The command line is wrong: an argument that is no option, an option without its value or"
+        " given twice, a number of workers outside 1 to 16 or of groups outside 1 to 4096, an"
+        " engine other than `dif` and `tree`, or an argument that isn't UTF-8."
     ),
     "`dreplay --help` lists the options. The trace comes by `<`: `dreplay -s SCRIPT < TRACE`.",
     (),
