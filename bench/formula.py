@@ -25,7 +25,7 @@ EACH = {
     "byte of a text": 2,
     "row": 76,
     "argument": 8,
-    "owner": 170,
+    "owner": 210,
     "byte of an execname": 2,
     "probe": 230,
     "byte of a probe's names": 2,
@@ -78,8 +78,8 @@ MADE_BY_GROUPS = [
 ]
 # The bytes of a trace that several workers read at a time, unless a row is longer.
 READ_TOGETHER = 1 << 22
-# The digits of a thread and a pid, if a plain row is read without csv.
-MAX_DIGITS = 20
+# The digits of a cpu, a thread and a pid, if a plain row is read without csv.
+MAX_DIGITS = 30
 # The fewest entries of an aggregation that threads write, and the most that they write at a time.
 MIN_BY_THREADS, MAX_BY_THREADS = 2_048, 32_768
 
@@ -104,19 +104,19 @@ def count_longest_row(counts, trace):
     counts["comma of the longest row"] = longest.count(",")
 
 
-def kept_as(thread, pid, execname):
+def kept_as(cpu, thread, pid, execname):
     """Returns what an owner is told from others by: csv reads one whose numbers are too long."""
-    if len(thread) + len(pid) > MAX_DIGITS:
-        return int(thread), int(pid), execname
-    return thread, pid, execname
+    if len(cpu + thread + pid) > MAX_DIGITS:
+        return int(cpu), int(thread), int(pid), execname
+    return cpu, thread, pid, execname
 
 
 def count_owners(counts, spellings):
-    """Counts owners, each in every spelling of its thread and pid."""
+    """Counts owners, each in every spelling of its numbers."""
     owners = {kept_as(*it) for it in spellings}
     counts["owner"] = len(owners)
-    counts["byte of an execname"] = sum(len(execname) for _, _, execname in owners)
-    counts["thread"] = len({int(thread) for thread, _, _ in owners})
+    counts["byte of an execname"] = sum(len(execname) for *_, execname in owners)
+    counts["thread"] = len({int(thread) for _, thread, _, _ in owners})
 
 
 def count_trace(trace):
@@ -128,7 +128,7 @@ def count_trace(trace):
     for row in csv.reader(trace.splitlines(keepends=True)[1:]):
         if len(row) != len(forms.COLUMNS) + 10:
             break
-        spellings.add((row[2], row[3], row[4]))
+        spellings.add(tuple(row[1:5]))
         probes.add(tuple(row[6:10]))
         counts["row"] += 1
         # Empty arguments that end a row aren't kept.

@@ -6,24 +6,16 @@ use Rattle.std.specs.Prelude.{IfSome, MatchOption, None, Option}
 use Rattle.std.proofs.Math.Seq.{drop-append-add}
 use Rattle.std.proofs.lemmas.List.{map-append}
 use Rattle.std.proofs.lemmas.List.Elements.{All-head, All-tail, All-cons, All-nil, All-append}
-use Rattle.firings.specs.declared.stored_row.Given.{Given}
 use Rattle.firings.specs.declared.stored_row.Row.{Row}
 use Rattle.firings.specs.declared.unit.Owner.{Owner}
 use Rattle.firings.specs.declared.unit.Probe.{Probe}
-use Rattle.firings.specs.Stored.{AreIndices, Extends, IsRowIn, count_of, firing_in, moved_given}
+use Rattle.firings.specs.Stored.{AreIndices, Extends, IsRowIn, firing_in, no_owner, no_probe}
 use Rattle.firing_reader.specs.Steps.Stored.{IsMovable, moved_row}
-use Rattle.firings.specs.Stored.{first_of, no_owner, no_probe}
 use Rattle.firings.proofs.Placed.{as_many, placed}
 use Rattle.firings.proofs.Stored.{named_at, named_in, rows_more, seen_all}
 
-first_moved : (g : Given) (shift : ℕ) → first_of (moved_given shift g) ≡ shift + first_of g
-first_moved g shift = omega arith
-
-count_moved : (g : Given) (shift : ℕ) → count_of (moved_given shift g) ≡ count_of g
-count_moved g shift = omega arith
-
 pub all_movable : (q os : List Owner) (qs : List ℕ) (u ps : List Probe) (us : List ℕ) (a o : List ℤ) (rs : List Row) → AreIndices q qs os → AreIndices u us ps
-    → length (a ++ o) < 2 ^ 28 → All (IsRowIn os ps o) rs → All (IsMovable qs us (length a)) rs
+    → length (a ++ o) < 2 ^ 32 → All (IsRowIn os ps o) rs → All (IsMovable qs us (length a)) rs
 all_movable q os qs u ps us a o rs to tp few all = λ k d within. one (get_or rs k d) (all k d within)
   where
     one : (r : Row) → IsRowIn os ps o r → IsMovable qs us (length a) r
@@ -32,7 +24,7 @@ all_movable q os qs u ps us a o rs to tp few all = λ k d within. one (get_or rs
         record {
           owner = rw (as_many q qs os to) h.owner;
           probe = rw (as_many u us ps tp) h.probe;
-          given = omega (arith, size, few, h.given);
+          first = omega (arith, size, few, h.inside);
         }
 
 moved_in : (q os : List Owner) (qs : List ℕ) (u ps : List Probe) (us : List ℕ) (a o : List ℤ) (r : Row) → AreIndices q qs os → AreIndices u us ps → IsRowIn os ps o r
@@ -42,18 +34,18 @@ moved_in q os qs u ps us a o r to tp h =
     record {
       owner = named_in q _ _ (placed q qs os r.owner no_owner to h.owner);
       probe = named_in u _ _ (placed u us ps r.probe no_probe tp h.probe);
-      given = omega (arith, size, h.given, first_moved r.given (length a), count_moved r.given (length a));
+      inside = omega (arith, size, h.inside);
     }
 
 moved_same : (q os : List Owner) (qs : List ℕ) (u ps : List Probe) (us : List ℕ) (a o : List ℤ) (r : Row) → AreIndices q qs os → AreIndices u us ps → IsRowIn os ps o r
     → firing_in q u (a ++ o) (moved_row qs us (length a) r) ≡ firing_in os ps o r
 moved_same q os qs u ps us a o r to tp h =
+    let later : r.first + length a ≡ length a + r.first = omega arith in
     rw (
       named_at q _ _ no_owner (placed q qs os r.owner no_owner to h.owner),
       named_at u _ _ no_probe (placed u us ps r.probe no_probe tp h.probe),
-      first_moved r.given (length a),
-      count_moved r.given (length a),
-      drop-append-add a o (first_of r.given),
+      later,
+      drop-append-add a o r.first,
     ) refl
 
 all_moved_in : (q os : List Owner) (qs : List ℕ) (u ps : List Probe) (us : List ℕ) (a o : List ℤ) (rs : List Row) → AreIndices q qs os → AreIndices u us ps

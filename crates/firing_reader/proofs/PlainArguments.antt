@@ -6,13 +6,13 @@ use Rattle.std.proofs.lemmas.List.Elements.{All-nil}
 use Rattle.std.proofs.Math.Seq.{drop-append-add}
 use Rattle.std.proofs.lemmas.List.{length-replicate, map-append, append-nil, take_rest}
 use Rattle.std.proofs.Math.Nat.{suc-mul, zero-mul}
-use Rattle.firings.specs.declared.stored_row.Given.{Given}
 use Rattle.firing_reader.specs.Column.{signed_of}
 use Rattle.firing_reader.specs.Plain.{BeginsAtEnd, Passes}
 use Rattle.firing_reader.specs.Steps.Arguments.{EndsAlike}
 use Rattle.firing_reader.specs.Steps.Plain.{Closes, JoinsField, ReadsArguments}
 use Rattle.firings.specs.Arguments.{ten}
-use Rattle.firings.specs.Stored.{Extends, IsGivenIn, count_of, first_of, given_in}
+use Rattle.firings.specs.Stored.{Extends}
+use Rattle.firings.specs.Units.{part}
 use Rattle.firing_reader.proofs.PlainFields.{one_joins, one_signed}
 use Rattle.firing_reader.proofs.PlainRows.{closes_more, closes_one, passes_more, passes_one}
 use Rattle.firings.proofs.Stored.{part_kept, ten_same}
@@ -106,10 +106,9 @@ ten_read (x0 ∷ x1 ∷ x2 ∷ x3 ∷ x4 ∷ x5 ∷ x6 ∷ x7 ∷ x8 ∷ x9 ∷ 
 ten_read _ bytes rest args many closes read = absurd (omega arith)
 
 -- the arguments of a row are those that were read, and zeros
-given_read : (old values all : List ℤ) (k : ℕ) (g : Given) → all ≡ old ++ values → first_of g ≡ length old → count_of g ≡ length values → length values + k ≡ 10
-    → ten (given_in all g) ≡ values ++ replicate k (pos 0)
-given_read old values all k g is first count some =
-    let own : given_in all g ≡ values = rw (first, count) (part_kept old all values is) in
+values_read : (old values all : List ℤ) (k count : ℕ) → all ≡ old ++ values → count ≡ length values → length values + k ≡ 10 → ten (part all (length old) count) ≡ values ++ replicate k (pos 0)
+values_read old values all k count is many some =
+    let own : part all (length old) count ≡ values = rw many (part_kept old all values is) in
     let size = length-append values (replicate k (pos 0)) in
     let zeros = length-replicate k (pos 0) in
     rw own (ten_same values (values ++ replicate k (pos 0)) (omega (arith, size, zeros)) (λ i. same values i))
@@ -129,29 +128,29 @@ alike_read field is zero = refl
 alike_read field is (suc k) = rw (is, alike_read field is k) refl
 
 -- fields after them that are written alike and are not kept
-pub alike_last : (n k : ℕ) (field bytes rest end : List ℕ) (old all : List ℤ) (g : Given) → signed_of field ≡ Some (pos 0) → ReadSoFar n bytes rest old all → Closes rest (replicate k field) end
-    → n + k ≡ 10 → first_of g ≡ length old → count_of g ≡ n → Extends old all × (IsGivenIn all g × ReadsArguments bytes end (ten (given_in all g)))
-alike_last n k field bytes rest end old all g is h closes some first count =
+pub alike_last : (n k : ℕ) (field bytes rest end : List ℕ) (old all : List ℤ) (first : ℕ) → signed_of field ≡ Some (pos 0) → ReadSoFar n bytes rest old all → Closes rest (replicate k field) end
+    → n + k ≡ 10 → first ≡ length old → Extends old all × ((first + n ≤ length all) × ReadsArguments bytes end (ten (part all first n)))
+alike_last n k field bytes rest end old all first is h closes some at =
     let size = length-append h.fields (replicate k field) in
     let zeros = length-replicate k field in
-    let args = given_read old h.values all k g h.kept first (omega (arith, h.count, count)) (omega (arith, h.count, some)) in
-    let reads : ReadsArguments bytes end (ten (given_in all g)) = rw args (ten_read (h.fields ++ replicate k field) bytes end (h.values ++ replicate k (pos 0)) (omega (arith, size, zeros, h.many, some))
+    let args = values_read old h.values all k n h.kept (sym h.count) (omega (arith, h.count, some)) in
+    let reads : ReadsArguments bytes end (ten (part all first n)) = rw (at, args) (ten_read (h.fields ++ replicate k field) bytes end (h.values ++ replicate k (pos 0)) (omega (arith, size, zeros, h.many, some))
     (closes_more bytes rest end h.fields (replicate k field) h.passes closes)
     (map-append signed_of h.fields (replicate k field) ∙ rw (h.read, alike_read field is k) (sym (map-append (λ (a : ℤ). Some a) h.values (replicate k (pos 0)))))) in
     let stored = length-append old h.values in
-    ((h.values, h.kept), (rw h.kept (omega (arith, stored, first, count, h.count)), reads))
+    ((h.values, h.kept), (rw h.kept (omega (arith, stored, at, h.count)), reads))
 
 -- the last one
-pub value_last : (n : ℕ) (bytes rest end : List ℕ) (old all new : List ℤ) (g : Given) (field : List ℕ) (value : ℤ) → n ≡ 9 → ReadSoFar n bytes rest old all → Closes rest (field ∷ []) end
-    → signed_of field ≡ Some value → new ≡ all ++ value ∷ [] → first_of g ≡ length old → count_of g ≡ 10 → Extends old new × (IsGivenIn new g × ReadsArguments bytes end (ten (given_in new g)))
-value_last n bytes rest end old all new g field value nine h closes read is first count =
+pub value_last : (n : ℕ) (bytes rest end : List ℕ) (old all new : List ℤ) (first : ℕ) (field : List ℕ) (value : ℤ) → n ≡ 9 → ReadSoFar n bytes rest old all → Closes rest (field ∷ []) end
+    → signed_of field ≡ Some value → new ≡ all ++ value ∷ [] → first ≡ length old → Extends old new × ((first + 10 ≤ length new) × ReadsArguments bytes end (ten (part new first 10)))
+value_last n bytes rest end old all new first field value nine h closes read is at =
     let fields_more = length-append h.fields (field ∷ []) in
     let values_more = length-append h.values (value ∷ []) in
     let kept : new ≡ old ++ (h.values ++ value ∷ []) = is ∙ rw h.kept (append_assoc old h.values (value ∷ [])) in
-    let args = given_read old (h.values ++ value ∷ []) new 0 g kept first (omega (arith, values_more, h.count, count, nine)) (omega (arith, values_more, h.count, nine)) in
+    let args = values_read old (h.values ++ value ∷ []) new 0 10 kept (omega (arith, values_more, h.count, nine)) (omega (arith, values_more, h.count, nine)) in
     let all_args = args ∙ append-nil (h.values ++ value ∷ []) in
-    let reads : ReadsArguments bytes end (ten (given_in new g)) = rw all_args (ten_read (h.fields ++ field ∷ []) bytes end (h.values ++ value ∷ []) (omega (arith, fields_more, h.many, nine))
+    let reads : ReadsArguments bytes end (ten (part new first 10)) = rw (at, all_args) (ten_read (h.fields ++ field ∷ []) bytes end (h.values ++ value ∷ []) (omega (arith, fields_more, h.many, nine))
     (closes_more bytes rest end h.fields (field ∷ []) h.passes closes)
     (map-append signed_of h.fields (field ∷ []) ∙ rw (h.read, read) (sym (map-append (λ (a : ℤ). Some a) h.values (value ∷ []))))) in
     let stored = length-append old (h.values ++ value ∷ []) in
-    ((h.values ++ value ∷ [], kept), (rw kept (omega (arith, stored, values_more, first, count, h.count, nine)), reads))
+    ((h.values ++ value ∷ [], kept), (rw kept (omega (arith, stored, values_more, at, h.count, nine)), reads))

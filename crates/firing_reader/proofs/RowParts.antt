@@ -1,5 +1,5 @@
 -- A plain row, as it is stored.
-use Rattle.std.proofs.Common.{◌≡◌, ◌∙◌, ◌^◌, ap, subst, ℕ, ℤ, List, [], ◌∷◌, ◌++◌, get_or, map, All, Option, None, Some, refl, sym}
+use Rattle.std.proofs.Common.{◌≡◌, ◌≤◌, ◌+◌, ◌∙◌, ◌^◌, length, ap, subst, ℕ, ℤ, List, [], ◌∷◌, ◌++◌, get_or, map, All, Option, None, Some, refl, sym}
 use Rattle.std.specs.Prelude.{MatchOption, slice_get}
 use Rattle.std.proofs.lemmas.List.Elements.{All-append, All-cons, All-nil}
 use Rattle.firings.specs.declared.firing.Firing.{Firing}
@@ -8,9 +8,9 @@ use Rattle.firings.specs.declared.unit.Owner.{Owner}
 use Rattle.firings.specs.declared.unit.Probe.{Probe}
 use Rattle.firing_reader.specs.Plain.{Passes, ReadsOwner, ReadsProbe, IsEnd, ReadsRow}
 use Rattle.firing_reader.specs.Steps.Plain.{BeginsRow, BeginsWith, JoinsField, ReadsArguments}
-use Rattle.firing_reader.specs.Column.{Whole, number_from, value_of}
-use Rattle.firings.specs.Stored.{Extends, IsGivenIn, IsRowIn, firing_in, given_in, no_owner}
-use Rattle.firings.specs.Stored.{no_probe}
+use Rattle.firing_reader.specs.Column.{number_from}
+use Rattle.firings.specs.Stored.{Extends, IsRowIn, firing_in, no_owner, no_probe}
+use Rattle.firings.specs.Units.{part}
 use Rattle.firings.specs.Arguments.{ten}
 use Rattle.firings.specs.Probing.{probe_of}
 use Rattle.firing_reader.specs.Steps.Stored.{owner_of}
@@ -20,7 +20,7 @@ use Rattle.firings.proofs.Stored.{named_at, named_in, rows_more, stored}
 
 -- the owner at an index, and the probe at one
 owner_there : (os : List Owner) (p : ℕ) (o : Owner) (b r : List ℕ) → slice_get os p ≡ Some o → ReadsOwner b r o
-    → ReadsOwner b r (record { thread = (get_or os p no_owner).thread; pid = (get_or os p no_owner).pid; execname = (get_or os p no_owner).execname })
+    → ReadsOwner b r (record { cpu = (get_or os p no_owner).cpu; thread = (get_or os p no_owner).thread; pid = (get_or os p no_owner).pid; execname = (get_or os p no_owner).execname })
 owner_there os p o b r there h = rw (named_at os p o no_owner there) h
 
 probe_there : (ps : List Probe) (p : ℕ) (q : Probe) (b r : List ℕ) → slice_get ps p ≡ Some q → ReadsProbe b r q
@@ -43,41 +43,39 @@ begins_row bytes line rest number (ends, is, are_ends) (first, more, starts, joi
 }
 
 -- the parts of a row, one after the other
-pub row_parts : (bytes b1 b2 b3 b4 b5 rest : List ℕ) (os : List Owner) (ps : List Probe) (args : List ℤ) (r : Row) (o : Owner) (p : Probe)
+pub row_parts : (bytes b1 b2 b3 b4 rest : List ℕ) (os : List Owner) (ps : List Probe) (args : List ℤ) (r : Row) (o : Owner) (p : Probe)
     → BeginsRow bytes r.number b1
-    → (field : List ℕ) × BeginsWith b1 field (44 ∷ b2) × (value_of (Whole 0 0x7FFF_FFFF) field ≡ Some r.cpu)
-    → slice_get os r.owner ≡ Some o → ReadsOwner b2 b3 o
-    → (field : List ℕ) × BeginsWith b3 field (44 ∷ b4) × (number_from 0 0xFFFF_FFFF_FFFF_FFFF field ≡ Some r.time)
-    → slice_get ps r.probe ≡ Some p → ReadsProbe b4 b5 p
-    → ReadsArguments b5 rest (ten (given_in args r.given)) → ReadsRow bytes rest (firing_in os ps args r)
-row_parts bytes b1 b2 b3 b4 b5 rest os ps args r o p begins (x2, f2, n2) at_o reads_o (x6, f6, n6) at_p reads_p a =
+    → slice_get os r.owner ≡ Some o → ReadsOwner b1 b2 o
+    → (field : List ℕ) × BeginsWith b2 field (44 ∷ b3) × (number_from 0 0xFFFF_FFFF_FFFF_FFFF field ≡ Some r.time)
+    → slice_get ps r.probe ≡ Some p → ReadsProbe b3 b4 p
+    → ReadsArguments b4 rest (ten (part args r.first r.count)) → ReadsRow bytes rest (firing_in os ps args r)
+row_parts bytes b1 b2 b3 b4 rest os ps args r o p begins at_o reads_o (x6, f6, n6) at_p reads_p a =
     let f : Firing = firing_in os ps args r in
-    let own = owner_there os r.owner o b2 b3 at_o reads_o in
-    let fired = probe_there ps r.probe p b4 b5 at_p reads_p in
-    let numbers : ReadsNumbers f = record { x1 = begins.field; x2 = x2; x6 = x6; is_number = begins.is_number; is_cpu = n2; is_time = n6 } in
+    let own = owner_there os r.owner o b1 b2 at_o reads_o in
+    let fired = probe_there ps r.probe p b3 b4 at_p reads_p in
+    let numbers : ReadsNumbers f = record { x1 = begins.field; x6 = x6; is_number = begins.is_number; is_time = n6 } in
     let tens = a.x0 ∷ a.x1 ∷ a.x2 ∷ a.x3 ∷ a.x4 ∷ a.x5 ∷ a.x6 ∷ a.x7 ∷ a.x8 ∷ a.x9 ∷ [] in
-    let names = own.x3 ∷ own.x4 ∷ own.x5 ∷ [] in
+    let names = own.x2 ∷ own.x3 ∷ own.x4 ∷ own.x5 ∷ [] in
     let texts = fired.x7 ∷ fired.x8 ∷ fired.x9 ∷ fired.x10 ∷ [] in
-    let q4 = closes_more b4 b5 rest texts tens fired.passes a.closes in
-    let q3 = closes_more b3 b4 rest (x6 ∷ []) (texts ++ tens) (passes_one b3 x6 b4 f6) q4 in
-    let q2 = closes_more b2 b3 rest names (x6 ∷ (texts ++ tens)) own.passes q3 in
-    let q1 = closes_more b1 b2 rest (x2 ∷ []) (names ++ (x6 ∷ (texts ++ tens))) (passes_one b1 x2 b2 f2) q2 in
+    let q3 = closes_more b3 b4 rest texts tens fired.passes a.closes in
+    let q2 = closes_more b2 b3 rest (x6 ∷ []) (texts ++ tens) (passes_one b2 x6 b3 f6) q3 in
+    let q1 = closes_more b1 b2 rest names (x6 ∷ (texts ++ tens)) own.passes q2 in
     let line = begins.first ∷ begins.more in
-    let q0 = closes_more line b1 rest (begins.field ∷ []) (x2 ∷ (names ++ (x6 ∷ (texts ++ tens)))) begins.passes q1 in
+    let q0 = closes_more line b1 rest (begins.field ∷ []) (names ++ (x6 ∷ (texts ++ tens))) begins.passes q1 in
     record {
       fields = fields f numbers own fired a;
       end = q0.end;
       after = q0.after;
       is_rest = q0.is_rest;
       ends = q0.ends;
-      read = row_read bytes begins.ends line rest (begins.field ∷ x2 ∷ (names ++ (x6 ∷ (texts ++ tens)))) begins.first begins.more begins.is_bytes begins.are_ends refl begins.joins q0;
+      read = row_read bytes begins.ends line rest (begins.field ∷ (names ++ (x6 ∷ (texts ++ tens)))) begins.first begins.more begins.is_bytes begins.are_ends refl begins.joins q0;
       firing = firing_ok f numbers own fired a;
     }
 
 -- a row whose owner and whose probe are there
-pub row_in : (os : List Owner) (ps : List Probe) (args : List ℤ) (r : Row) (o : Owner) (p : Probe) → slice_get os r.owner ≡ Some o → slice_get ps r.probe ≡ Some p → IsGivenIn args r.given
+pub row_in : (os : List Owner) (ps : List Probe) (args : List ℤ) (r : Row) (o : Owner) (p : Probe) → slice_get os r.owner ≡ Some o → slice_get ps r.probe ≡ Some p → r.first + r.count ≤ length args
     → IsRowIn os ps args r
-row_in os ps args r o p at_o at_p given = record { owner = named_in os r.owner o at_o; probe = named_in ps r.probe p at_p; given = given }
+row_in os ps args r o p at_o at_p inside = record { owner = named_in os r.owner o at_o; probe = named_in ps r.probe p at_p; inside = inside }
 
 -- one more row, after what is kept for it
 pub pushed_in : (o q : List Owner) (p u : List Probe) (a b : List ℤ) (rs : List Row) (r : Row) → Extends o q → Extends p u → Extends a b → All (IsRowIn o p a) rs → IsRowIn q u b r
@@ -87,10 +85,10 @@ pushed_in o q p u a b rs r eo ep ea all is =
 
 -- a firing that is stored as a row with its owner, its probe and its arguments
 pub row_stored : (os : List Owner) (ps : List Probe) (args : List ℤ) (rs : List Row) (old : List Firing) (r : Row) (f : Firing) → map (firing_in os ps args) rs ≡ old
-    → slice_get os r.owner ≡ Some (owner_of f) → slice_get ps r.probe ≡ Some (probe_of f) → ten (given_in args r.given) ≡ f.args → r.number ≡ f.number → r.cpu ≡ f.cpu → r.time ≡ f.time
+    → slice_get os r.owner ≡ Some (owner_of f) → slice_get ps r.probe ≡ Some (probe_of f) → ten (part args r.first r.count) ≡ f.args → r.number ≡ f.number → r.time ≡ f.time
     → map (firing_in os ps args) (rs ++ r ∷ []) ≡ old ++ f ∷ []
-row_stored os ps args rs old r f is at_o at_p given number cpu time =
-    let one : firing_in os ps args r ≡ f = rw (named_at os r.owner (owner_of f) no_owner at_o, named_at ps r.probe (probe_of f) no_probe at_p, given, number, cpu, time) refl in
+row_stored os ps args rs old r f is at_o at_p own number time =
+    let one : firing_in os ps args r ≡ f = rw (named_at os r.owner (owner_of f) no_owner at_o, named_at ps r.probe (probe_of f) no_probe at_p, own, number, time) refl in
     stored os ps args rs r f old is one
 
 -- a row that was added if there was memory for it: what holds either way

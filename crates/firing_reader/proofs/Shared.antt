@@ -122,37 +122,42 @@ own_field field text read =
 
 -- ---- owners
 
--- the text after two numbers
-pub owner_text : (b0 b1 b2 rest x3 x4 name : List ℕ) (from count : ℕ) → b0 ≡ x3 ++ 44 ∷ b1 → b1 ≡ x4 ++ 44 ∷ b2 → b2 ≡ name ++ rest → from ≡ length b0 - length b2 → count ≡ length name
-    → text_of name ≡ Some name → IsPart b0 from count name
-owner_text b0 b1 b2 rest x3 x4 name from count is0 is1 is2 index many own =
-    let size0 = ap length is0 in
-    let both0 = length-append x3 (44 ∷ b1) in
-    let size1 = ap length is1 in
-    let both1 = length-append x4 (44 ∷ b2) in
-    let last = part_first b2 name rest count is2 many own in
-    let next = part_next b1 x4 b2 name 44 0 (length x4 + suc 0) count is1 refl last in
-    part_next b0 x3 b1 name 44 (length x4 + suc 0) from count is0 (omega (arith, size0, both0, size1, both1, index)) next
+-- the text after three numbers
+owner_text : (b0 b1 b2 b3 rest x2 x3 x4 name : List ℕ) (from count : ℕ) → b0 ≡ x2 ++ 44 ∷ b1 → b1 ≡ x3 ++ 44 ∷ b2 → b2 ≡ x4 ++ 44 ∷ b3 → b3 ≡ name ++ rest → from ≡ length b0 - length b3
+    → count ≡ length name → text_of name ≡ Some name → IsPart b0 from count name
+owner_text b0 b1 b2 b3 rest x2 x3 x4 name from count is0 is1 is2 is3 index many own =
+    let at2 = length x4 + suc 0 in
+    let at1 = length x3 + suc at2 in
+    let both0 = length-append x2 (44 ∷ b1) in
+    let both1 = length-append x3 (44 ∷ b2) in
+    let both2 = length-append x4 (44 ∷ b3) in
+    let before : from ≡ length x2 + suc at1 = omega (arith, ap length is0, both0, ap length is1, both1, ap length is2, both2, index) in
+    let last = part_first b3 name rest count is3 many own in
+    part_next b0 x2 b1 name 44 at1 from count is0 before (part_next b1 x3 b2 name 44 at2 at1 count is1 refl (part_next b2 x4 b3 name 44 0 at2 count is2 refl last))
 
 -- the fields of an owner, one after another
-pub owner_parsed : (key b1 b2 b3 : List ℕ) (e : OwnerEntry) (name : List ℕ) → (field : List ℕ) × BeginsWith key field (44 ∷ b1) × (value_of (Whole 1 0x7FFF_FFFF) field ≡ Some e.thread)
-    → (field : List ℕ) × BeginsWith b1 field (44 ∷ b2) × (value_of (Whole 0 0x7FFF_FFFF) field ≡ Some e.pid) → (field : List ℕ) × BeginsWith b2 field (44 ∷ b3) × (text_of field ≡ Some name)
-    → e.from ≡ length key - length b2 → e.count ≡ length name → b3 ≡ [] → IsTextIn key e.from e.count × ReadsOwner key [] (owner_in (key, e))
-owner_parsed key b1 b2 b3 e name (x3, f3, thread) (x4, f4, pid) (x5, f5, execname) index many none =
+pub owner_parsed : (key b1 b2 b3 b4 : List ℕ) (e : OwnerEntry) (name : List ℕ) → (field : List ℕ) × BeginsWith key field (44 ∷ b1) × (value_of (Whole 0 0x7FFF_FFFF) field ≡ Some e.cpu)
+    → (field : List ℕ) × BeginsWith b1 field (44 ∷ b2) × (value_of (Whole 1 0x7FFF_FFFF) field ≡ Some e.thread) → (field : List ℕ) × BeginsWith b2 field (44 ∷ b3) × (value_of (Whole 0 0x7FFF_FFFF) field ≡ Some e.pid)
+    → (field : List ℕ) × BeginsWith b3 field (44 ∷ b4) × (text_of field ≡ Some name) → e.from ≡ length key - length b3 → e.count ≡ length name → b4 ≡ []
+    → IsTextIn key e.from e.count × ReadsOwner key [] (owner_in (key, e))
+owner_parsed key b1 b2 b3 b4 e name (x2, f2, cpu) (x3, f3, thread) (x4, f4, pid) (x5, f5, execname) index many none =
     let (same, own) = own_field x5 name execname in
-    let split : b2 ≡ name ++ 44 ∷ b3 = rw same at f5.split in
-    let there = owner_text key b1 b2 (44 ∷ b3) x3 x4 name e.from e.count f3.split f4.split split index many own in
-    let two = passes_more key b1 b2 (x3 ∷ []) (x4 ∷ []) (passes_one key x3 b1 f3) (passes_one b1 x4 b2 f4) in
-    let all = passes_more key b2 b3 (x3 ∷ x4 ∷ []) (x5 ∷ []) two (passes_one b2 x5 b3 f5) in
-    (part_text key e.from e.count name there, record { x3 = x3; x4 = x4; x5 = x5; passes = rw none at all; is_thread = thread; is_pid = pid; is_execname = execname ∙ ap (λ t. Some t) (sym there.is) })
+    let split : b3 ≡ name ++ 44 ∷ b4 = rw same at f5.split in
+    let there = owner_text key b1 b2 b3 (44 ∷ b4) x2 x3 x4 name e.from e.count f2.split f3.split f4.split split index many own in
+    let two = passes_more key b1 b2 (x2 ∷ []) (x3 ∷ []) (passes_one key x2 b1 f2) (passes_one b1 x3 b2 f3) in
+    let three = passes_more key b2 b3 (x2 ∷ x3 ∷ []) (x4 ∷ []) two (passes_one b2 x4 b3 f4) in
+    let all = passes_more key b3 b4 (x2 ∷ x3 ∷ x4 ∷ []) (x5 ∷ []) three (passes_one b3 x5 b4 f5) in
+    (part_text key e.from e.count name there, record { x2 = x2; x3 = x3; x4 = x4; x5 = x5; passes = rw none at all; is_cpu = cpu; is_thread = thread; is_pid = pid; is_execname = execname ∙ ap (λ t. Some t) (sym there.is) })
 
 -- the fields of an owner, whatever comes after them
 pub owner_read : (key rest bytes : List ℕ) (o : Owner) → ReadsOwner key [] o → bytes ≡ key ++ rest → ReadsOwner bytes rest o
 owner_read key rest bytes o h is = record {
+  x2 = h.x2;
   x3 = h.x3;
   x4 = h.x4;
   x5 = h.x5;
-  passes = unit_passes key rest bytes (h.x3 ∷ h.x4 ∷ h.x5 ∷ []) h.passes is;
+  passes = unit_passes key rest bytes (h.x2 ∷ h.x3 ∷ h.x4 ∷ h.x5 ∷ []) h.passes is;
+  is_cpu = h.is_cpu;
   is_thread = h.is_thread;
   is_pid = h.is_pid;
   is_execname = h.is_execname;

@@ -23,12 +23,14 @@ Passes bytes fields rest = (before : List (List ℕ)) (tail : List ℕ) →
     next_record default_config State.StartField before [] (bytes ++ tail)
     ≡ next_record default_config State.StartField (before ++ fields) [] (rest ++ tail)
 
--- the columns 3 to 5: who fired, and the fields that write it
+-- the columns 2 to 5: who fired, and the fields that write it
 pub record ReadsOwner (bytes rest : List ℕ) (o : Owner) : Type 0 where
+  pub x2 : List ℕ
   pub x3 : List ℕ
   pub x4 : List ℕ
   pub x5 : List ℕ
-  pub passes : Passes bytes (x3 ∷ x4 ∷ x5 ∷ []) rest
+  pub passes : Passes bytes (x2 ∷ x3 ∷ x4 ∷ x5 ∷ []) rest
+  pub is_cpu : value_of (Whole 0 0x7FFF_FFFF) x2 ≡ Some o.cpu
   pub is_thread : value_of (Whole 1 0x7FFF_FFFF) x3 ≡ Some o.thread
   pub is_pid : value_of (Whole 0 0x7FFF_FFFF) x4 ≡ Some o.pid
   pub is_execname : text_of x5 ≡ Some o.execname

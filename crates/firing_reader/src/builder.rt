@@ -120,14 +120,14 @@ impl FiringsBuilder {
     {
         let owner = keep_owner(&mut self.owners, self.alloc, firing)?;
         let probe = keep_probe(&mut self.probes, self.alloc, firing)?;
-        let given = keep_arguments(&mut self.args, firing.args.stored())?;
+        let (first, count) = keep_arguments(&mut self.args, firing.args.stored())?;
         let row = Row {
             number: firing.number,
             time: firing.time,
-            cpu: firing.cpu,
             owner,
             probe,
-            given,
+            first,
+            count,
         };
         push_row(&mut self.rows, row)
     }
@@ -206,7 +206,7 @@ fn moved_row(row: &Row, owners: &[u32], probes: &[u32], shift: u32) -> Row
     Row {
         owner: owners[row.owner as usize],
         probe: probes[row.probe as usize],
-        given: row.given.moved(shift),
+        first: row.first + shift,
         ..*row
     }
 }

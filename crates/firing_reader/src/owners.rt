@@ -9,9 +9,9 @@ use crate::unit_table::{PlainEntry, UnitTable, add_bytes};
 use firings::{Firing, MAX_TEXT, OwnerEntry};
 use std::alloc::Global;
 
-// Two numbers of 31 bits that begin with no zero have at most this many bytes, with their commas.
+// Three numbers of 31 bits that begin with no zero have at most this many bytes, with their commas.
 // If they have more csv reads the row, as zeros write an owner in any number of ways.
-const MAX_NUMBERS: usize = 22;
+const MAX_NUMBERS: usize = 33;
 
 impl PlainEntry for OwnerEntry {
     ghost use Rattle.std.specs.Prelude.{[]};
@@ -25,7 +25,8 @@ impl PlainEntry for OwnerEntry {
     }
 
     fn read(key: &[u8]) -> Option<OwnerEntry> {
-        let (thread, rest) = int(key, 1)?;
+        let (cpu, rest) = int(key, 0)?;
+        let (thread, rest) = int(rest, 1)?;
         let (pid, rest) = int(rest, 0)?;
         let from = key.len().saturating_sub(rest.len());
         let (execname, rest) = text(rest)?;
@@ -33,6 +34,7 @@ impl PlainEntry for OwnerEntry {
             return None;
         }
         Some(OwnerEntry {
+            cpu,
             thread,
             pid,
             from: from as u8,
@@ -55,6 +57,7 @@ pub(crate) fn keep_owner(
     owners.intern(
         &bytes,
         OwnerEntry {
+            cpu: firing.cpu,
             thread: firing.thread,
             pid: firing.pid,
             from: 0,
@@ -68,8 +71,9 @@ fn owner_bytes(alloc: Global, firing: &Firing) -> Option<Vec<u8>>
     ensures { IfSome result
         (λ bytes. (numbers : List ℕ) × (bytes.items ≡ firing.now.execname ++ numbers)) }
 {
-    let mut bytes = Vec::with_capacity(alloc, MAX_TEXT + 8).ok()?;
+    let mut bytes = Vec::with_capacity(alloc, MAX_TEXT + 12).ok()?;
     add_bytes(&mut bytes, firing.execname.as_bytes())?;
+    add_bytes(&mut bytes, &firing.cpu.to_le_bytes())?;
     add_bytes(&mut bytes, &firing.thread.to_le_bytes())?;
     add_bytes(&mut bytes, &firing.pid.to_le_bytes())?;
     Some(bytes)

@@ -12,8 +12,7 @@ use Rattle.firings.specs.declared.firing.Firing.{Firing}
 use Rattle.firings.specs.declared.stored_row.Row.{Row}
 use Rattle.firings.specs.declared.unit.Owner.{Owner}
 use Rattle.firings.specs.declared.unit.Probe.{Probe}
-use Rattle.firings.specs.Stored.{Extends, IsRowIn, count_of, firing_in, first_of, no_owner}
-use Rattle.firings.specs.Stored.{no_probe}
+use Rattle.firings.specs.Stored.{Extends, IsRowIn, firing_in, no_owner, no_probe}
 use Rattle.firings.specs.Arguments.{ten}
 
 pub extends_same : {X : Type 0} (xs : List X) → Extends xs xs
@@ -38,11 +37,11 @@ pub row_more : (o q : List Owner) (p u : List Probe) (a b : List ℤ) (r : Row) 
 row_more o q p u a b r eo ep ea h = record {
   owner = within_more o q (suc r.owner) eo h.owner;
   probe = within_more p u (suc r.probe) ep h.probe;
-  given = within_more a b (first_of r.given + count_of r.given) ea h.given;
+  inside = within_more a b (r.first + r.count) ea h.inside;
 }
 
 pub seen_same : (o q : List Owner) (p u : List Probe) (a b : List ℤ) (r : Row) → Extends o q → Extends p u → Extends a b → IsRowIn o p a r → firing_in q u b r ≡ firing_in o p a r
-seen_same o q p u a b r eo ep ea h = rw (found_more o q r.owner no_owner eo h.owner, found_more p u r.probe no_probe ep h.probe, part_more a b (first_of r.given) (count_of r.given) ea h.given) refl
+seen_same o q p u a b r eo ep ea h = rw (found_more o q r.owner no_owner eo h.owner, found_more p u r.probe no_probe ep h.probe, part_more a b r.first r.count ea h.inside) refl
 
 pub rows_more : (o q : List Owner) (p u : List Probe) (a b : List ℤ) (rs : List Row) → Extends o q → Extends p u → Extends a b → All (IsRowIn o p a) rs → All (IsRowIn q u b) rs
 rows_more o q p u a b rs eo ep ea all = λ k d within. row_more o q p u a b (get_or rs k d) eo ep ea (all k d within)

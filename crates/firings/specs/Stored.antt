@@ -1,41 +1,21 @@
 -- Firings as a trace stores them: rows of small fixed size, and apart from them what rows share and
 -- their arguments.
-use Rattle.std.specs.Prelude.{◌≡◌, ◌<◌, ◌≤◌, ◌+◌, ◌*◌, ◌/◌, ◌%◌, ℕ, zero, suc, ℤ, pos, List, []}
-use Rattle.std.specs.Prelude.{◌++◌}
-use Rattle.std.specs.Prelude.{Option, None, Some, length, get_or, slice_get, map, take, drop}
+use Rattle.std.specs.Prelude.{◌≡◌, ◌<◌, ◌≤◌, ◌+◌, ℕ, zero, suc, ℤ, pos, List, [], ◌++◌}
+use Rattle.std.specs.Prelude.{Option, None, Some, length, get_or, slice_get, map}
 use Rattle.firings.specs.Arguments.{ten}
 use Rattle.firings.specs.declared.firing.Firing.{Firing}
-use Rattle.firings.specs.declared.stored_row.Given.{Given}
 use Rattle.firings.specs.declared.stored_row.Row.{Row}
 use Rattle.firings.specs.declared.unit.Owner.{Owner}
 use Rattle.firings.specs.declared.unit.Probe.{Probe}
+use Rattle.firings.specs.Units.{part}
 
 -- a list that goes on where another ends
 abbrev pub Extends : {X : Type 0} → List X → List X → Type 0
 Extends {X} old new = (more : List X) × (new ≡ old ++ more)
 
--- where a row's own arguments begin among those of all, and how many they are
-abbrev pub first_of : Given → ℕ
-first_of g = g.packed / 16
-
-abbrev pub count_of : Given → ℕ
-count_of g = g.packed % 16
-
--- as many arguments, which begin this much later
-abbrev pub moved_given : ℕ → Given → Given
-moved_given shift g = record { packed = g.packed + 16 * shift }
-
--- a row's own arguments
-abbrev pub given_in : List ℤ → Given → List ℤ
-given_in args g = take (count_of g) (drop (first_of g) args)
-
--- there are as many arguments
-abbrev pub IsGivenIn : List ℤ → Given → Type 0
-IsGivenIn args g = first_of g + count_of g ≤ length args
-
 -- what stands for an owner or a probe that there is none of at an index
 abbrev pub no_owner : Owner
-no_owner = record { thread = pos 0; pid = pos 0; execname = [] }
+no_owner = record { cpu = pos 0; thread = pos 0; pid = pos 0; execname = [] }
 
 abbrev pub no_probe : Probe
 no_probe = record { provider = []; probemod = []; probefunc = []; name = [] }
@@ -44,7 +24,7 @@ no_probe = record { provider = []; probemod = []; probefunc = []; name = [] }
 abbrev pub firing_in : List Owner → List Probe → List ℤ → Row → Firing
 firing_in owners probes args r = record {
   number = r.number;
-  cpu = r.cpu;
+  cpu = (get_or owners r.owner no_owner).cpu;
   thread = (get_or owners r.owner no_owner).thread;
   pid = (get_or owners r.owner no_owner).pid;
   execname = (get_or owners r.owner no_owner).execname;
@@ -53,7 +33,7 @@ firing_in owners probes args r = record {
   probemod = (get_or probes r.probe no_probe).probemod;
   probefunc = (get_or probes r.probe no_probe).probefunc;
   name = (get_or probes r.probe no_probe).name;
-  args = ten (given_in args r.given);
+  args = ten (part args r.first r.count);
 }
 
 -- what a row names is there
@@ -61,7 +41,7 @@ pub record IsRowIn (owners : List Owner) (probes : List Probe) (args : List ℤ)
     : Type 0 where
   pub owner : r.owner < length owners
   pub probe : r.probe < length probes
-  pub given : IsGivenIn args r.given
+  pub inside : r.first + r.count ≤ length args
 
 -- the indices where these others are, one for each
 abbrev pub AreIndices : {X : Type 0} → List X → List ℕ → List X → Type 0

@@ -8,9 +8,9 @@ use Rattle.firings.specs.declared.unit.Probe.{Probe}
 use Rattle.firings.specs.declared.units.Known.{Known}
 use Rattle.firings.specs.Texts.{text_of}
 
--- this many bytes from an index on
-abbrev pub part : List ℕ → ℕ → ℕ → List ℕ
-part bytes begin count = take count (drop begin bytes)
+-- this many elements from an index on
+abbrev pub part : {X : Type 0} → List X → ℕ → ℕ → List X
+part xs begin count = take count (drop begin xs)
 
 -- a unit's own bytes among those of all, and its entry
 abbrev pub unit_in : {E : Type 0} → List ℕ → Known E → List ℕ × E
@@ -30,6 +30,7 @@ pub record IsTextIn (bytes : List ℕ) (begin count : ℕ) : Type 0 where
 -- the owner of a unit
 abbrev pub owner_in : List ℕ × OwnerEntry → Owner
 owner_in u = record {
+  cpu = u.1.cpu;
   thread = u.1.thread;
   pid = u.1.pid;
   execname = part u.0 u.1.from u.1.count;

@@ -91,9 +91,10 @@ pub(crate) fn firing_of<'a>(
     ensures { result
         ≡ firing_in (map owner_in owners.now) (map probe_in probes.now) args.now row }
 {
-    let first = row.given.first();
-    let given = &args[first..first + row.given.count()];
+    let first = row.first as usize;
+    let own = &args[first..first + row.count as usize];
     let Owner {
+        cpu,
         thread,
         pid,
         execname,
@@ -106,7 +107,7 @@ pub(crate) fn firing_of<'a>(
     } = probe_at(probes, row.probe as usize);
     Firing {
         number: row.number,
-        cpu: row.cpu,
+        cpu,
         thread,
         pid,
         execname,
@@ -115,6 +116,6 @@ pub(crate) fn firing_of<'a>(
         probemod,
         probefunc,
         name,
-        args: Args::of(given),
+        args: Args::of(own),
     }
 }

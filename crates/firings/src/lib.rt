@@ -29,7 +29,7 @@ pub use firings::Firings;
 pub use limits::{MAX_ROWS, MAX_TEXT, MAX_TOGETHER};
 pub use owner_indices::OwnerIndices;
 pub use probe_indices::ProbeIndices;
-pub use stored_row::{Given, Row};
+pub use stored_row::Row;
 pub use text::Text;
 pub use trace::Trace;
 pub use unit::{Owner, OwnerEntry, Probe, ProbeEntry};

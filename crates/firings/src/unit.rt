@@ -6,9 +6,11 @@ ghost use Rattle.firings.specs.Units.{owner_in, probe_in};
 use crate::text::Text;
 use crate::units::{Entry, Units};
 
-/// Who fired: a row's thread, process and program.
+/// Who fired: a row's processor, thread, process and program.
 #[derive(Drop)]
 pub struct Owner<'a> {
+    /// The processor.
+    pub cpu: i32,
     /// The thread.
     pub thread: i32,
     /// The process.
@@ -34,6 +36,7 @@ pub struct Probe<'a> {
 /// is.
 #[derive(Clone, Copy, PartialEq, Eq)]
 pub struct OwnerEntry {
+    pub cpu: i32,
     pub thread: i32,
     pub pid: i32,
     pub from: u8,
@@ -69,6 +72,7 @@ pub(crate) fn owner_at(owners: &Units<OwnerEntry>, index: usize) -> Owner
 {
     let (bytes, entry) = owners.at(index);
     Owner {
+        cpu: entry.cpu,
         thread: entry.thread,
         pid: entry.pid,
         execname: Text::within(bytes, entry.from as usize, entry.count),

@@ -4,7 +4,7 @@ use Rattle.std.specs.Prelude.{get_or, slice_get, true}
 use Rattle.firings.specs.declared.firing.Firing.{Firing}
 use Rattle.firings.specs.declared.stored_row.Row.{Row}
 use Rattle.firings.specs.declared.unit.Owner.{Owner}
-use Rattle.firings.specs.Stored.{Extends, first_of, moved_given}
+use Rattle.firings.specs.Stored.{Extends}
 
 -- the list goes on, and this holds of what a call returned, if it returned anything
 abbrev pub Gains : {X Y : Type 0} → (old new : List X) → Option Y → (Y → Type 0) → Type 0
@@ -18,7 +18,7 @@ IsUnitOf {E} Reads units key plain index = (e : E) × (slice_get units index ≡
 
 -- who fired
 abbrev pub owner_of : Firing → Owner
-owner_of f = record { thread = f.thread; pid = f.pid; execname = f.execname }
+owner_of f = record { cpu = f.cpu; thread = f.thread; pid = f.pid; execname = f.execname }
 
 -- a row whose owner and probe have these indices among others, and whose arguments begin this
 -- much later
@@ -26,11 +26,11 @@ abbrev pub moved_row : List ℕ → List ℕ → ℕ → Row → Row
 moved_row owners probes shift r = record r {
   owner = get_or owners r.owner 0;
   probe = get_or probes r.probe 0;
-  given = moved_given shift r.given;
+  first = r.first + shift;
 }
 
 -- there is an index for the row's owner, for its probe, and for its first argument
 pub record IsMovable (owners probes : List ℕ) (shift : ℕ) (r : Row) : Type 0 where
   pub owner : r.owner < length owners
   pub probe : r.probe < length probes
-  pub given : first_of r.given + shift < 2 ^ 28
+  pub first : r.first + shift < 2 ^ 32

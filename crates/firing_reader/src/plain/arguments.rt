@@ -1,16 +1,14 @@
 //! The arguments of a plain row.
 
-ghost use Rattle.std.specs.Prelude.{◌≡◌, ◌≤◌, ◌∷◌, ◌++◌, [], ℕ, ℤ, List, true, Some, IfSome};
+ghost use Rattle.std.specs.Prelude.{◌≡◌, ◌≤◌, ◌+◌, ◌∷◌, ◌++◌, [], ℕ, ℤ, List, true, Some, IfSome};
 ghost use Rattle.std.specs.Prelude.{MatchOption, length, take};
 ghost use Rattle.firing_reader.specs.Steps.{Arguments.EndsAlike, Plain.Closes};
 ghost use Rattle.firing_reader.specs.Steps.{Plain.ReadsArguments, Stored.Gains};
-ghost use Rattle.firings.specs.{Arguments.ten};
+ghost use Rattle.firings.specs.{Arguments.ten, Units.part};
 ghost use Rattle.firing_reader.specs.{Column.signed_of, Plain.BeginsAtEnd, Plain.Passes};
-ghost use Rattle.firings.specs.Stored.{IsGivenIn, given_in};
 
 use super::field::{last_argument, next_argument};
 use super::front::{begins_at_end, rest_after};
-use firings::Given;
 use keyed_hash::is_same;
 
 // Ten arguments that are 0.
@@ -83,22 +81,23 @@ fn keep_last<'a>(all: &mut Vec<i64>, bytes: &'a [u8]) -> Option<&'a [u8]>
 }
 
 /// Keeps the ten arguments, without those at the end that are all `0`, or all empty. It returns
-/// where they are, and what comes from the end of the row on.
+/// where they begin, how many they are, and what comes from the end of the row on.
 #[inline(always)]
-pub(crate) fn read_arguments<'a>(all: &mut Vec<i64>, bytes: &'a [u8]) -> Option<(Given, &'a [u8])>
-    ensures { Gains all.old.items all.new.items result (λ p. IsGivenIn all.new.items p.0
-        × ReadsArguments bytes.now p.1.now (ten (given_in all.new.items p.0))) }
+pub(crate) fn read_arguments<'a>(
+    all: &mut Vec<i64>,
+    bytes: &'a [u8],
+) -> Option<(u32, u32, &'a [u8])>
+    ensures { Gains all.old.items all.new.items result (λ p. (p.0 + p.1 ≤ length all.new.items)
+        × ReadsArguments bytes.now p.2.now (ten (part all.new.items p.0 p.1))) }
 {
-    let first = all.len();
+    let first = u32::try_from(all.len()).ok()?;
     let mut rest = bytes;
     for n in 0..9u32 {
         if let Some(end) = after_alike(rest, 10 - n as usize) {
-            let given = Given::new(first, n)?;
-            return Some((given, end));
+            return Some((first, n, end));
         }
         rest = keep_next(all, rest)?;
     }
     let end = keep_last(all, rest)?;
-    let given = Given::new(first, 10)?;
-    Some((given, end))
+    Some((first, 10, end))
 }

@@ -7,7 +7,7 @@ ghost use Rattle.firings.specs.Stored.{Extends, IsRowIn, firing_in};
 ghost use Rattle.firings.specs.Units.{owner_in, probe_in};
 
 use super::arguments::read_arguments;
-use super::field::{int, whole};
+use super::field::whole;
 use super::front::{after_ends, starts_with_digit};
 use super::unit::end_of;
 use crate::unit_table::UnitTable;
@@ -34,20 +34,19 @@ pub(crate) fn row<'a>(
     ensures rises { IfSome result (λ p. last < p.0.number) }
 {
     let (number, rest) = number_above(bytes, last)?;
-    let (cpu, rest) = int(rest, 0)?;
-    let (owner_key, rest) = rest.split_at(end_of(rest, 3));
+    let (owner_key, rest) = rest.split_at(end_of(rest, 4));
     let (time, rest) = whole(rest, 0, u64::MAX)?;
     let (probe_key, rest) = rest.split_at(end_of(rest, 4));
     let owner = owners.read(owner_key)?;
     let probe = probes.read(probe_key)?;
-    let (given, rest) = read_arguments(args, rest)?;
+    let (first, count, rest) = read_arguments(args, rest)?;
     let row = Row {
         number,
         time,
-        cpu,
         owner,
         probe,
-        given,
+        first,
+        count,
     };
     Some((row, rest))
 }

@@ -18,9 +18,9 @@ returns c =
     let bytes = c.in_ok-bytes.bytes.items in
     let name = c.args.firing.now.execname in
     let (numbers, is) = c.in_ok-bytes.ensures in
-    let e : OwnerEntry = record { thread = c.args.firing.now.thread; pid = c.args.firing.now.pid; from = 0; count = c.count.result } in
+    let e : OwnerEntry = record { cpu = c.args.firing.now.cpu; thread = c.args.firing.now.thread; pid = c.args.firing.now.pid; from = 0; count = c.count.result } in
     let o = owner_of c.args.firing.now in
     let own = part_first bytes name numbers c.count.result is c.count.ensures.value c.count.ensures.text in
     let same : owner_in (bytes, e) ≡ o = rw own.is refl in
-    let there = rw (c.deref.ensures.value, to_z-of_z w32 c.args.firing.now.thread (search rules), to_z-of_z w32 c.args.firing.now.pid (search rules)) at c.intern.ensures.1 in
+    let there = rw (c.deref.ensures.value, to_z-of_z w32 c.args.firing.now.cpu (search rules), to_z-of_z w32 c.args.firing.now.thread (search rules), to_z-of_z w32 c.args.firing.now.pid (search rules)) at c.intern.ensures.1 in
     (c.intern.ensures.0, seen_kept owner_in c.intern.new.self (bytes, e) o c.intern.result same there)

@@ -9,7 +9,7 @@ add_rows-requires c =
     let own = c.self.inside.args.items in
     let other = c.others.inside in
     let both : c.add_arguments.new.all.items ≡ own ++ other.args.items = rw (← c.deref.ensures.value) c.in_ok-shift.ensures.1.1 in
-    let few : length (own ++ other.args.items) < 2 ^ 28 = rw both at c.in_ok-shift.ensures.1.2 in
+    let few : length (own ++ other.args.items) < 2 ^ 32 = rw both at c.in_ok-shift.ensures.1.2 in
     let owners = seen_indices owner_in c.indices_of.new.self c.in_ok-owner_indices.owner_indices.items other.owners c.in_ok-owner_indices.ensures.1 in
     let probes = seen_indices probe_in c.indices_of-2.new.self c.in_ok-probe_indices.probe_indices.items other.probes c.in_ok-probe_indices.ensures.1 in
     rw (c.deref-3.ensures.value, c.deref-4.ensures.value, c.deref-2.ensures.value, c.in_ok-shift.ensures.1.0)

@@ -1,17 +1,17 @@
-use Rattle.std.proofs.Common.{◌-◌, arith}
+use Rattle.std.proofs.Common.{rules, ◌≡◌, ◌-◌, arith}
 use Rattle.firing_reader.proofs.PlainArguments.{none_so_far, one_so_far, value_last, alike_last}
 use Rattle.firing_reader.proofs.plain.arguments.read_arguments.Goals as goal
 
 pub loop-n-init : goal.loop-n-init
-loop-n-init c = record { read = none_so_far c.args.bytes.now c.args.all.now.items; first = omega (arith, c.len-first.ensures, c.args.all.now.ok.0) }
+loop-n-init c =
+    let first : c.in_ok-first.first ≡ c.len.result = search rules in
+    record { read = none_so_far c.args.bytes.now c.args.all.now.items; first = omega (arith, first, c.len.ensures, c.args.all.now.ok.0) }
 
 pub returns-in-Some : goal.returns-in-Some
 returns-in-Some c =
-    let g = c.in_ok-given.given in
-    let e = c.in_ok-given.ensures in
     let (field, is, closes) = c.in-Some.ensures in
-    alike_last c.loop-n.n (10 - c.loop-n.n) field c.args.bytes.now c.loop-n.rest.now c.in-Some.end.now c.args.all.now.items c.loop-n.all.items g is c.loop-n.invariant.read closes
-    (omega arith) (omega (arith, e.first, c.loop-n.invariant.first)) (omega (arith, e.count))
+    alike_last c.loop-n.n (10 - c.loop-n.n) field c.args.bytes.now c.loop-n.rest.now c.in-Some.end.now c.args.all.now.items c.loop-n.all.items c.in_ok-first.first is c.loop-n.invariant.read closes
+    (omega arith) c.loop-n.invariant.first
 
 pub loop-n-preserved : goal.loop-n-preserved
 loop-n-preserved c =
@@ -24,7 +24,5 @@ loop-n-preserved c =
 pub returns : goal.returns
 returns c =
     let (field, value, closes, read, pushed) = c.in_ok-end.ensures in
-    let g = c.in_ok-given-2.given in
-    let e = c.in_ok-given-2.ensures in
-    value_last c.loop-n.n c.args.bytes.now c.loop-n.rest.now c.in_ok-end.end.now c.args.all.now.items c.loop-n.all.items c.keep_last.new.all.items g field value (omega arith)
-    c.loop-n.invariant.read closes read pushed (omega (arith, e.first, c.loop-n.invariant.first)) (omega (arith, e.count))
+    value_last c.loop-n.n c.args.bytes.now c.loop-n.rest.now c.in_ok-end.end.now c.args.all.now.items c.loop-n.all.items c.keep_last.new.all.items c.in_ok-first.first field value (omega arith)
+    c.loop-n.invariant.read closes read pushed c.loop-n.invariant.first
