@@ -38,8 +38,8 @@ LEX = [
         "A byte that begins no token at its place.",
         (
             "There are no macro arguments such as `$1`, no character constants, no brackets in"
-            " probe descriptions, no `=` outside of a body, and `#` only begins an option line. A"
-            " byte order mark, UTF-16 or a compressed script is refused so, too."
+            " probe descriptions, no `=` outside of a body, and `#` only begins an option line."
+            " Byte order marks, UTF-16 and compressed scripts are refused for this, too."
         ),
         (
             "`:::hit { trace($1); }`",
@@ -157,7 +157,7 @@ TYPE = [
         1,
         "GlobalAssignment",
         LINE,
-        "A word that is no variable is assigned.",
+        "A word that isn't a variable is assigned.",
         "There are no global variables: write `self->x` or `this->x` for `x`.",
         ("`x = 1;`, `x++;`, `x[pid] += 1;`", "`self->x = 1;` or `this->x = 1;`"),
     ),
@@ -289,7 +289,7 @@ TYPE = [
         "PrintfArguments",
         LINE,
         (
-            "A `printf` whose format is no text constant, has an unknown conversion or a width "
+            "A `printf` whose format isn't a text constant, has an unknown conversion or a width "
             "over 255, or doesn't fit its arguments."
         ),
         "`%d`, `%i`, `%u`, `%x` and `%o` take an integer, `%s` takes a text.",
@@ -360,7 +360,7 @@ TRACE = [
         3,
         "Number",
         FIELD,
-        "A field that is no number, or out of its column's range.",
+        "A field that isn't a number, or is out of its column's range.",
         (
             "A number is decimal digits; an argument may have one minus in front, and may be empty."
             " Look for a sign, a space, a decimal point, an exponent, an empty field, a number too"
@@ -438,7 +438,7 @@ SYSTEM = [
         "write failed",
         "",
         "Standard output can't be written: a full disk, or a closed pipe.",
-        "A beginning of the answer may have gone out. With `| head` it is no fault.",
+        "A beginning of the answer may have gone out. With `| head` that is fine.",
         (),
     ),
 ]
@@ -449,9 +449,10 @@ USAGE = Refusal(
     "error:",
     "",
     (
-        "The command line is wrong: an argument that is no option, an option without its value or"
-        " given twice, a number of workers outside 1 to 16 or of groups outside 1 to 4096, an"
-        " engine other than `dif` and `tree`, or an argument that isn't UTF-8."
+        "The command line is wrong: an argument that isn't an option, an option without its value"
+        " or given twice, a number of workers outside 1 to 16 or of groups outside 1 to 4096, an"
+        " engine other than `dif` and `tree`, or an argument that isn't UTF-8 (`a word is not"
+        " UTF-8`)."
     ),
     "`dreplay --help` lists the options. The trace comes by `<`: `dreplay -s SCRIPT < TRACE`.",
     (),
