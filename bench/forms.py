@@ -1,5 +1,5 @@
-"""Forms of input that are dear, each of any size: bench/dear measures them at their largest,
-tests/growth compares what they take at a small size and at twice that, and bench/bombs draws
+"""Forms of input that are costly, each of any size: bench/worst_cases measures them at their largest,
+tests/growth compares what they take at a small size and at twice that, and bench/memory_fuzz draws
 statements of these kinds."""
 from collections.abc import Callable
 from dataclasses import dataclass
@@ -56,7 +56,7 @@ FILLINGS = [
 
 @dataclass
 class Form:
-    """A script and a trace of a size; the size at which bench/dear measures them, and the one with
+    """A script and a trace of a size; the size at which bench/worst_cases measures them, and the one with
     which tests/growth begins. The plan, and how much there is of the terms of the formula of memory
     that the script comes to."""
 
@@ -89,7 +89,7 @@ def describe(one, clauses=256, descriptions=120):
     return (",".join([one] * descriptions) + "{}") * clauses
 
 
-def often(one, body):
+def repeat_clause(one, body):
     """One clause of 512 equal descriptions."""
     return f"{','.join([one] * 512)}{{{body}}}"
 
@@ -227,7 +227,7 @@ TRACES = {
     "spellings of an owner": Form(100_000, 20_000, spell),
     "probes": Form(300_000, 20_000, lambda size: trace_of(size, function="{0:0230}")),
 }
-# Scripts that are dear to read, and answers that are dear to write.
+# Scripts that are costly to read, and answers that are costly to write.
 SCRIPTS = {
     "script": Form(32_000, 8_000, lambda size: trace_of(1), lambda size: of_hit("1;" * size)),
     "answer": Form(
@@ -241,14 +241,14 @@ SCRIPTS = {
         5_860,
         40,
         lambda size: HEADER,
-        lambda size: often("*", 'printf("");' * size),
+        lambda size: repeat_clause("*", 'printf("");' * size),
         more=lambda size: {"text": 2 * 512 * size},
     ),
     "widths": Form(
         51,
         1,
         lambda size: HEADER,
-        lambda size: often("BEGIN", WIDTHS * size),
+        lambda size: repeat_clause("BEGIN", WIDTHS * size),
         more=lambda size: {"text": 512 * size, "byte of a text": 512 * size * 170 * 255},
     ),
     "traced rows": Form(
@@ -262,14 +262,14 @@ SCRIPTS = {
         31_700,
         5,
         lambda size: trace_of(100),
-        lambda size: often("hit", "1;" * size),
+        lambda size: repeat_clause("hit", "1;" * size),
         "-w 1 -g 1 -e tree",
     ),
     "compiled statements": Form(
         31_700,
         5,
         lambda size: trace_of(100),
-        lambda size: often("hit", "1;" * size),
+        lambda size: repeat_clause("hit", "1;" * size),
         "-w 1 -g 1 -e dif",
     ),
 }

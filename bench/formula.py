@@ -89,7 +89,7 @@ def bound(counts):
     return sum(EACH[term] * count for term, count in counts.items())
 
 
-def dearest(counts, most=4):
+def largest_terms(counts, most=4):
     """Returns the terms that come to most bytes, each with its megabytes."""
     terms = sorted(counts, key=lambda term: -EACH[term] * counts[term])
     return ", ".join(f"{term} {EACH[term] * counts[term] / 2**20:.0f}" for term in terms[:most])
