@@ -1,6 +1,6 @@
-"""Forms of input that are costly, each of any size: bench/worst_cases measures them at their largest,
-tests/growth compares what they take at a small size and at twice that, and bench/memory_fuzz draws
-statements of these kinds."""
+"""Forms of input that are costly, each of any size: bench/worst_cases measures them at their
+largest, tests/growth compares what they take at a small size and at twice that, and
+bench/memory_fuzz draws statements of these kinds."""
 from collections.abc import Callable
 from dataclasses import dataclass
 
@@ -56,9 +56,9 @@ FILLINGS = [
 
 @dataclass
 class Form:
-    """A script and a trace of a size; the size at which bench/worst_cases measures them, and the one with
-    which tests/growth begins. The plan, and how much there is of the terms of the formula of memory
-    that the script comes to."""
+    """A script and a trace of a size; the size at which bench/worst_cases measures them, and the
+    one with which tests/growth begins. The plan, and how much there is of the terms of the formula
+    of memory that the script comes to."""
 
     size: int
     small: int
@@ -114,7 +114,7 @@ def descriptions_by_bit(bits):
 
 def clauses_by_bit(clauses, bits):
     """Clauses of one description, of which the last ones ask for a bit each."""
-    return "z{}" * (clauses - bits) + "".join(f"{bit(place)}{{}}" for place in range(bits))
+    return "z{}" * (clauses - bits) + "".join(f"{bit(index)}{{}}" for index in range(bits))
 
 
 def number_probes(count, bits):

@@ -16,7 +16,7 @@ from plain.objects_machine import (
     Instruction,
     Object,
 )
-from plain.objects_validity import START, Known, after, faults_anywhere, faults_on_ways, leads, met
+from plain.objects_validity import START, Known, after, faults_anywhere, faults_on_ways, leads, meet
 
 NUMBERS = [0, 1, 2, 3, 5, 63, 64, 255, 2**63 - 1, 2**63, 2**64 - 8, 2**64 - 1]
 TEXTS = ["", "a", "b", "ab", "cat", "x" * 200, "y" * 255]
@@ -65,7 +65,7 @@ def draw_code(chance, difo, length):
     """Draws code in which, as far as tries go, few instructions have a fault."""
     arriving, returned = {0: [START]}, chance.choice("nt")
     for pc in range(length):
-        known = reduce(met, arriving[pc]) if pc in arriving else None
+        known = reduce(meet, arriving[pc]) if pc in arriving else None
         drawn = Place(difo, pc, length, known, arriving, returned)
         is_any = chance.random() < (ANY_AT_MEETINGS if len(arriving.get(pc, [])) > 1 else ANY)
         it = next(

@@ -1,8 +1,8 @@
 """Which of DIF's objects are valid, else their first fault, retold from docs/DIF.md and not from
 the program.
 
-What is known before a place is defined by recursion: it is what all reached places before it that
-lead to it agree on.
+What is known before an instruction is defined by recursion: it is what all reached instructions
+that lead to it agree on.
 """
 import functools
 from typing import NamedTuple
@@ -45,7 +45,7 @@ class Known(NamedTuple):
 START = Known(("n", *[None] * (len(REGISTERS) - 1)), False, "")
 
 
-def met(one, other):
+def meet(one, other):
     """What two ways agree on."""
     registers = tuple(a if a == b else None for a, b in zip(one.registers, other.registers))
     return Known(
@@ -56,7 +56,7 @@ def met(one, other):
 
 
 def leads(pc, it):
-    """The places that an instruction at a place leads to."""
+    """The indices that an instruction at an index leads to."""
     if it.name == "ret":
         return []
     if it.name in CONDITIONS:
@@ -95,7 +95,7 @@ def after(it, known):
 
 
 def faults_anywhere(it, pc, length, difo):
-    """The faults that an instruction at a place of so much code has also where no way reaches
+    """The faults that an instruction at an index of so much code has also where no way reaches
     it."""
     if it.name == "ba" or it.name in CONDITIONS:
         if it.number <= pc:
@@ -136,7 +136,7 @@ def takes(it, parts):
 
 
 class Validity:
-    """What is known of an object, place by place."""
+    """What is known of an object, instruction by instruction."""
 
     def __init__(self, difo):
         self.difo = difo
@@ -148,18 +148,18 @@ class Validity:
         self.known = {0: START}
 
     def before(self, pc):
-        """What is known before a place, None if no way leads there."""
+        """What is known before an instruction, None if no way leads there."""
         if pc not in self.known:
             ways = [
-                after(self.difo.code[place], self.before(place))
-                for place in self.leading[pc]
-                if self.before(place)
+                after(self.difo.code[index], self.before(index))
+                for index in self.leading[pc]
+                if self.before(index)
             ]
-            self.known[pc] = functools.reduce(met, ways) if ways else None
+            self.known[pc] = functools.reduce(meet, ways) if ways else None
         return self.known[pc]
 
     @functools.cached_property
-    def returned(self):
+    def returned_kind(self):
         """The kind that the first reached `ret` returns."""
         returns = (
             (pc, it) for pc, it in enumerate(self.difo.code) if it.name == "ret" and self.before(pc)
@@ -171,11 +171,11 @@ class Validity:
         it = self.difo.code[pc]
         yield from faults_anywhere(it, pc, len(self.difo.code), self.difo)
         if self.before(pc):
-            yield from faults_on_ways(it, self.before(pc), self.returned)
+            yield from faults_on_ways(it, self.before(pc), self.returned_kind)
 
 
 def first_fault(difo):
-    """The first fault of an object and its place, None if it is valid."""
+    """The first fault of an object and its index, None if it is valid."""
     if not difo.code:
         return "Empty", None
     if difo.code[-1].name != "ret":
@@ -190,4 +190,4 @@ def first_fault(difo):
 
 def kind(difo):
     """The kind of a valid object."""
-    return KINDS[Validity(difo).returned]
+    return KINDS[Validity(difo).returned_kind]

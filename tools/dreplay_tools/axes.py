@@ -43,7 +43,7 @@ def scale(keys, most):
     first, last = min(keys), max(keys)
     step = step_of(first, last, most)
     base = first // step
-    labels = [add_labels(place * step, step) for place in range(base, last // step + 1)]
+    labels = [add_labels(index * step, step) for index in range(base, last // step + 1)]
     return Axis(labels, {key: key // step - base for key in keys}, 0)
 
 
@@ -76,7 +76,7 @@ def axis_of_names(keys, weight, most):
     """The axis of names: those that weigh most, in their order."""
     shown = keep(keys, weight, most)
     labels = ["  ".join(map(name, key)) if isinstance(key, tuple) else name(key) for key in shown]
-    places = {key: place for place, key in enumerate(shown)}
+    places = {key: index for index, key in enumerate(shown)}
     return Axis(labels, places, len(keys) - len(shown))
 
 
@@ -98,7 +98,7 @@ def on_scale(entries, function, args, most):
         axis, joined = scale(values, most), [[] for _ in range(most)]
         for key, value in values.items():
             joined[axis.places[key]].append(value)
-        return [(label, JOINED[function](joined[place])) for place, label in enumerate(axis.labels)]
+        return [(label, JOINED[function](joined[index])) for index, label in enumerate(axis.labels)]
     return None if len(values) > most else with_gaps(sorted(values.items()))
 
 

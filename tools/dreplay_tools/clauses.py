@@ -22,15 +22,15 @@ def add_counts(data):
     script = Script(decode(data))
     opens = [token.start for token in script.tokens if token.text == "{"]
     pieces, done = [], 0
-    for place, clause in enumerate(script.clauses):
+    for index, clause in enumerate(script.clauses):
         first, last = clause.descriptions[0], clause.descriptions[-1]
         body = next(start for start in opens if start > last.start)
         probes = ", ".join(token.text for token in clause.descriptions)
         pieces += [
             script.text[done : first.start],
-            f"{probes} {{ @{REACHED}{place} = count(); }}\n",
+            f"{probes} {{ @{REACHED}{index} = count(); }}\n",
             script.text[first.start : body + 1],
-            f" @{TRUE}{place} = count(); ",
+            f" @{TRUE}{index} = count(); ",
         ]
         done = body + 1
     return "".join([*pieces, script.text[done:]]), script.clauses
@@ -43,17 +43,17 @@ def lines(data, trace, program):
     text, clauses = add_counts(data)
     counts = counts_of(text, trace, program)
     columns = [["line"], ["firings"], ["true"], ["clause"]]
-    for place, clause in enumerate(clauses):
+    for index, clause in enumerate(clauses):
         probes = ", ".join(token.text for token in clause.descriptions)
         row = [
             str(clause.descriptions[0].line),
-            f"{counts.get(f'@{REACHED}{place}', 0):,}",
-            f"{counts.get(f'@{TRUE}{place}', 0):,}" if clause.predicate else "",
+            f"{counts.get(f'@{REACHED}{index}', 0):,}",
+            f"{counts.get(f'@{TRUE}{index}', 0):,}" if clause.predicate else "",
             probes if len(probes) <= MAX_SHOWN else probes[:MAX_SHOWN] + "..",
         ]
         for column, cell in zip(columns, row):
             column.append(cell)
-    shown = [align(column, place < 3) for place, column in enumerate(columns)]
+    shown = [align(column, index < 3) for index, column in enumerate(columns)]
     return ["  ".join(row).rstrip() for row in zip(*shown)]
 
 

@@ -56,10 +56,10 @@ def data_table(names, rows, shown, pairs):
         )
     yield ("<th class=bars></th>" if pairs else "") + "</tr></thead><tbody>"
     bars = Bars([value for pair in pairs or [] for value in pair])
-    for place, row in enumerate(rows[:MAX_ROWS]):
+    for index, row in enumerate(rows[:MAX_ROWS]):
         cells = [cell(value, not is_text) for value, is_text in zip(row, texts)]
         if pairs:
-            cells.append(f'<td class="bars pair">{two(bars, *pairs[place])}</td>')
+            cells.append(f'<td class="bars pair">{two(bars, *pairs[index])}</td>')
         yield f"<tr>{''.join(cells)}</tr>"
     yield "</tbody></table></div>"
     if len(rows) > MAX_ROWS:
@@ -80,7 +80,7 @@ def card(change, args):
     title = "  ".join(map(name, change.key))
     yield f'<div class="card">{f"<h3>{escape(title)}</h3>" if title else ""}<table>'
     rows = change.before or change.after
-    counts = [[of[place].count if of else 0 for of in both] for place in range(len(rows))]
+    counts = [[of[index].count if of else 0 for of in both] for index in range(len(rows))]
     shares = [[count / (total or 1) for count, total in zip(pair, totals)] for pair in counts]
     bars = Bars([share for pair in shares for share in pair])
     for row, pair, share in zip(rows, counts, shares):

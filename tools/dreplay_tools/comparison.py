@@ -155,8 +155,8 @@ def bucket_rows(change, args):
     """The rows of the buckets of both histograms."""
     both = change.before or change.after
     totals = count_of(change.before), count_of(change.after)
-    for place, row in enumerate(both):
-        counts = [rows[place].count if rows else 0 for rows in (change.before, change.after)]
+    for index, row in enumerate(both):
+        counts = [rows[index].count if rows else 0 for rows in (change.before, change.after)]
         ends = [row.low, row.high] if args.unit is None else [interval(row, args.unit)]
         if args.value_unit == SHARE:
             shares = [100 * count / (total or 1) for count, total in zip(counts, totals)]

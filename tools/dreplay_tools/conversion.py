@@ -190,7 +190,7 @@ class Conversion:
     def take_run(self, threads, rows, returns):
         """Takes a run of lines that have been read, as `frequent_lines` has them."""
         heads, number, shown, before = self.processes.heads, self.rows.number, [], self.line - 1
-        for place, (thread, row, back) in enumerate(zip(threads, rows, returns), 1):
+        for index, (thread, row, back) in enumerate(zip(threads, rows, returns), 1):
             head = heads.get(thread) or self.processes.head(thread)
             if back is not None:
                 number += 2
@@ -198,7 +198,7 @@ class Conversion:
                 continue
             number += 1
             if type(row) is tuple:
-                self.line = before + place
+                self.line = before + index
                 self.forget(thread)
             if len(row) == 3 and type(row) is tuple:
                 self.rows.number = number

@@ -57,14 +57,14 @@ def as_table(shown, args):
     names, rows = table(shown, args)
     texts = [*shown.aggregation.texts, *[False] * len(names)]
     keys, last, columns = len(shown.aggregation.keys), len(names) - 1, []
-    for place, (name, column) in enumerate(zip(names, list(zip(*rows)) or [()] * len(names))):
-        mark = "d" if place < keys else ",d"  # a number that is a key, such as a pid, is a name
+    for index, (name, column) in enumerate(zip(names, list(zip(*rows)) or [()] * len(names))):
+        mark = "d" if index < keys else ",d"  # a number that is a key, such as a pid, is a name
         cells = [format(cell, mark) if type(cell) is int else printable(cell) for cell in column]
-        if place < keys:  # an empty name is seen; an end that a bucket hasn't stays empty
+        if index < keys:  # an empty name is seen; an end that a bucket hasn't stays empty
             cells = [cell or '""' for cell in cells]
         others = {cell for cell in column if type(cell) is not int}
-        is_right = not texts[place] and others <= {""}
-        is_right |= place == last or (place >= keys and isinstance(shown, Compared))
+        is_right = not texts[index] and others <= {""}
+        is_right |= index == last or (index >= keys and isinstance(shown, Compared))
         columns.append(align([printable(name), *cells], is_right))
     lines = [("  " + "  ".join(row)).rstrip() for row in zip(*columns)]
     return [printable(shown.title), *lines]
@@ -158,7 +158,7 @@ def members_of_change(shown, change, args):
         yield from ((name, "null" if value is None else value) for name, value in both)
         return
     rows = change.before or change.after
-    counts = [[of[place].count if of else 0 for _, of in both] for place in range(len(rows))]
+    counts = [[of[index].count if of else 0 for _, of in both] for index in range(len(rows))]
     yield "value", in_list(
         [
             bucket_in_json(row, [("before", before), ("after", after)])

@@ -252,16 +252,16 @@ def beginning(line):
         words.append(word)
         if len(words) > WORDS_OF_A_NAME + 5:
             break
-    for place in range(1, len(words) - 1):
-        cpu = CPU.fullmatch(words[place][0])
+    for index in range(1, len(words) - 1):
+        cpu = CPU.fullmatch(words[index][0])
         if not cpu:
             continue
-        after = place + 1
+        after = index + 1
         after += (
             TIME.fullmatch(words[after][0]) is None and FLAGS.fullmatch(words[after][0]) is not None
         )
         time = TIME.fullmatch(words[after][0]) if after < len(words) else None
-        who = thread_of(line[words[0].start() : words[place - 1].end()]) if time else None
+        who = thread_of(line[words[0].start() : words[index - 1].end()]) if time else None
         if who:
             name, thread, process = who
             rest = line[words[after].end() :].strip()

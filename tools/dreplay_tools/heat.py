@@ -105,11 +105,11 @@ def rows_of(there, buckets):
     """
     first, last = buckets.ends
     lowest, highest = min(there), max(there)
-    every = [buckets.bucket(place, 0) for place in range(first, last + 1)]
+    every = [buckets.bucket(index, 0) for index in range(first, last + 1)]
     every = [bucket for bucket in every if lowest <= bounds(bucket) <= highest]
     joined = -(-len(every) // MAX_BUCKETS)
     groups = [every[start : start + joined] for start in range(0, len(every), joined)][::-1]
-    places = {bounds(bucket): place for place, group in enumerate(groups) for bucket in group}
+    places = {bounds(bucket): index for index, group in enumerate(groups) for bucket in group}
     return Axis([Bucket(group[0].low, group[-1].high, 0) for group in groups], places, 0)
 
 

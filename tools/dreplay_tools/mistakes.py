@@ -476,7 +476,7 @@ def of_control(tokens, at):
 def open_blocks(tokens):
     """The places of the last braces that open blocks in a clause whose own brace isn't closed."""
     depth, blocks = 0, []
-    for place, token in enumerate(tokens):
+    for index, token in enumerate(tokens):
         if token.text == "}":
             depth = max(depth - 1, 0)
         elif token.text == "{":
@@ -484,15 +484,15 @@ def open_blocks(tokens):
             if depth == 1:
                 blocks.clear()
             else:
-                blocks.append(place)
+                blocks.append(index)
     return blocks[-MAX_JOINED:] if depth else []
 
 
 def leader(tokens, at):
     """The word before a place, or before the parentheses that end there."""
     depth = 0
-    for place in range(at - 1, -1, -1):
-        text = tokens[place].text
+    for index in range(at - 1, -1, -1):
+        text = tokens[index].text
         depth += (text == ")") - (text == "(")
         if depth == 0 and text != "(":
             return text

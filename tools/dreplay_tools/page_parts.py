@@ -61,7 +61,7 @@ for (const table of document.querySelectorAll("table.data")) {{
 
 def scale(most):
     """A scale of a heat map's colours, from nothing to the most."""
-    parts = [place / SWATCHES for place in range(1, SWATCHES + 1)]
+    parts = [index / SWATCHES for index in range(1, SWATCHES + 1)]
     steps = sorted({round(most * part**2) for part in parts} - {0})
     swatches = "".join(
         f'<i style="--v:{math.sqrt(step / most) * 0.92 + 0.08:.2f}" title="{step:,}"></i>'

@@ -75,9 +75,9 @@ def beginning(line):
         words.append(word)
         if len(words) > WORDS_OF_A_NAME + 4:
             break
-    for place in range(1, len(words) - 1):
-        found = THREAD.fullmatch(words[place][0])
-        after = place + 1
+    for index in range(1, len(words) - 1):
+        found = THREAD.fullmatch(words[index][0])
+        after = index + 1
         cpu = CPU.fullmatch(words[after][0]) if found else None
         after += cpu is not None
         time = TIME.fullmatch(words[after][0]) if found and after < len(words) else None
@@ -87,7 +87,7 @@ def beginning(line):
         if after + 1 < len(words) and words[after][0].isdigit():
             after += 1  # how many events there were
         if after < len(words) and is_event(words[after][0]):
-            name = line[words[0].start() : words[place - 1].end()]
+            name = line[words[0].start() : words[index - 1].end()]
             event = words[after]
             return (
                 name,

@@ -269,18 +269,18 @@ def chart_at(chart, top, wide):
     begin, end = top + 30, top + 30 + ROW * len(chart.values)
     axis = Axis(chart.values, left, right)
     parts = [*title, *axis.lines(begin, end, chart.unit)]
-    for place, (value, shown) in enumerate(zip(chart.values, chart.shown)):
-        y = begin + ROW * place
-        parts += [text_at(x, y + 12, text, anchor=anchor) for x, text, anchor in labels[place]]
+    for index, (value, shown) in enumerate(zip(chart.values, chart.shown)):
+        y = begin + ROW * index
+        parts += [text_at(x, y + 12, text, anchor=anchor) for x, text, anchor in labels[index]]
         start, length = axis.bar(value)
         parts.append(
             f'<rect x="{start}" y="{y}" width="{length}" height="{ROW - 4}" rx="2" class="bar"/>'
         )
         parts.append(text_at(max(start + length, axis.zero) + 6, y + 12, shown, "muted"))
     parts.append(line(axis.zero, begin - 4, axis.zero, end + 2, "axis"))
-    for place, note in enumerate(chart.notes):
+    for index, note in enumerate(chart.notes):
         shown = cut(note, max(10, int((wide - left) / 8)))
-        parts.append(text_at(left, end + 36 + 18 * place, shown, "muted"))
+        parts.append(text_at(left, end + 36 + 18 * index, shown, "muted"))
     return parts, end + 22 - top + 18 * len(chart.notes)
 
 
@@ -342,5 +342,5 @@ def steps_of(low, high):
             step = size * factor
             first, last = low // step, -(-high // step)
             if last - first <= 5:
-                return [step * place for place in range(first, max(last, first + 1) + 1)]
+                return [step * index for index in range(first, max(last, first + 1) + 1)]
         size *= 10

@@ -75,8 +75,8 @@ class Pieces:
         try:
             for first in range(self.jobs):
                 files.append(self.process(first, files))
-            for place in range(self.count):
-                yield marshal.loads(take(files[place % self.jobs]))
+            for index in range(self.count):
+                yield marshal.loads(take(files[index % self.jobs]))
         finally:
             for file in files:
                 file.close()  # one that still reads ends by that
@@ -94,8 +94,8 @@ class Pieces:
             for file in (*others, open(reads, "rb")):
                 file.close()
             with open(writes, "wb") as out:
-                for place in range(first, self.count, self.jobs):
-                    data = marshal.dumps(self.make(place))
+                for index in range(first, self.count, self.jobs):
+                    data = marshal.dumps(self.make(index))
                     out.write(len(data).to_bytes(LENGTH, "little") + data)
             status = 0
         finally:

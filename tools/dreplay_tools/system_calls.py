@@ -98,7 +98,7 @@ MACHINES = {"x86_64": X86_64, "aarch64": GENERIC, "riscv64": GENERIC, "loongarch
 def names_of(machine):
     """The names of a machine's system calls by their numbers; empty for one that isn't known."""
     return {
-        first + place: name
+        first + index: name
         for first, names in MACHINES.get(machine, {}).items()
-        for place, name in enumerate(names.split())
+        for index, name in enumerate(names.split())
     }

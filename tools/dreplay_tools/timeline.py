@@ -74,4 +74,4 @@ class Events:
 
 def arguments(fields):
     """The arguments of a row that aren't empty, by their names."""
-    return {f"arg{place}": int(field[:20]) for place, field in enumerate(fields) if field}
+    return {f"arg{index}": int(field[:20]) for index, field in enumerate(fields) if field}

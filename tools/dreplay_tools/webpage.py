@@ -200,8 +200,8 @@ def data_table(shown, args, with_bars):
     for row, value in zip(rows, sorts):
         keys = len(shown.aggregation.keys)
         cells = [
-            cell(part, number, is_key=place < keys)
-            for place, (part, number) in enumerate(zip(row[:-1], is_number))
+            cell(part, number, is_key=index < keys)
+            for index, (part, number) in enumerate(zip(row[:-1], is_number))
         ]
         cells.append(cell(row[-1], True, value))
         yield "<tr>" + "".join(cells) + (

@@ -135,14 +135,14 @@ def change_token(chance, tokens):
 
 def change_operand(chance, tokens):
     places = [
-        place for place, token in enumerate(tokens) if token in OPERANDS_DRAWN or "->" in token
+        index for index, token in enumerate(tokens) if token in OPERANDS_DRAWN or "->" in token
     ]
     if places:
         tokens[chance.choice(places)] = chance.choice(OPERANDS)
 
 
 def insert_statement(chance, tokens):
-    places = [place for place, token in enumerate(tokens, 1) if token == "{"]
+    places = [index for index, token in enumerate(tokens, 1) if token == "{"]
     if places:
         tokens.insert(chance.choice(places), chance.choice(STATEMENTS))
 

@@ -79,8 +79,8 @@ def render(script, shown):
         for number, value in shown.texts
     ]
     listed = [
-        entries(place, name, aggregation, shown.arguments[name])
-        for place, (name, aggregation) in enumerate(script.aggregations.items())
+        entries(index, name, aggregation, shown.arguments[name])
+        for index, (name, aggregation) in enumerate(script.aggregations.items())
         if name in shown.arguments
     ]
     return b"".join([FIRST_LINE, *texts, *listed, end(shown)])

@@ -53,10 +53,10 @@ def fire(script, firing, own, shown):
     shown.firings += 1
     evaluation = Evaluation(firing, own)
     probe = (firing.provider, firing.module, firing.function, firing.name)
-    for place, clause in enumerate(script.clauses, 1):
+    for index, clause in enumerate(script.clauses, 1):
         for description in clause.descriptions:
             if fits(description, probe):
-                run_clause(evaluation, place, clause, shown)
+                run_clause(evaluation, index, clause, shown)
 
 
 def fits(description, probe):

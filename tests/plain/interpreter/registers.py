@@ -30,7 +30,7 @@ def need(expression):
 def of_row(expressions):
     """What expressions need that are kept one after the other."""
     return max(
-        (place + need(expression) for place, expression in enumerate(expressions)), default=1
+        (index + need(expression) for index, expression in enumerate(expressions)), default=1
     )
 
 
