@@ -336,7 +336,7 @@ TRACE = [
         1,
         "Header",
         "",
-        "The trace has no header, or another one.",
+        "The trace has no header, or a different one.",
         (
             "Put the header first: its twenty names in their order. In a bundle a line `---` comes"
             " before it; with `-s` there is none. The trace has to be plain CSV in UTF-8, with"
