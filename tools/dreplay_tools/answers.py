@@ -144,7 +144,7 @@ def parse(line):
     except (ValueError, RecursionError, StopIteration):
         found = None
     if not isinstance(found, dict) or end != len(shown):
-        raise Wrong("it is no object of JSON")
+        raise Wrong("it isn't an object of JSON")
     return found
 
 
@@ -195,7 +195,7 @@ def members(value, names):
 
 
 def buckets_of(function, value):
-    """The buckets that an entry's value is of; none if it is no histogram."""
+    """The buckets that an entry's value is of; none if it isn't a histogram."""
     if function == "quantize":
         return Powers()
     if function != "lquantize":

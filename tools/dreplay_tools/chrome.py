@@ -53,7 +53,9 @@ def events_in(file):
             found = found.get("traceEvents")
         if isinstance(found, list):
             return found
-    raise Failure("nothing was converted: it is no list of trace events in JSON", NOTHING_CONVERTED)
+    raise Failure(
+        "nothing was converted: it isn't a list of trace events in JSON", NOTHING_CONVERTED
+    )
 
 
 class Threads:
@@ -116,7 +118,7 @@ class Reader:
         """
         kind = event.get("ph") if isinstance(event, dict) else None
         if not isinstance(kind, str):
-            raise BadEvent("it is no trace event, as it has no ph")
+            raise BadEvent("it isn't a trace event, as it has no ph")
         thread = identity(event.get("pid")), identity(event.get("tid"))
         named = self.threads.name(self.threads.last, *thread)
         if kind == "M":
@@ -173,7 +175,7 @@ def nanoseconds(value):
         except (InvalidOperation, ValueError):
             value = None
     if type(value) not in (int, Decimal) or not 0 <= value <= MAX_TIME // 1000:
-        raise BadEvent("its time is no number of microseconds from 0 up")
+        raise BadEvent("its time isn't a number of microseconds from 0 up")
     return int(value * 1000)
 
 

@@ -58,5 +58,7 @@ def after_title(doc):
 def number(shown):
     """A number from 1 to 999999999."""
     if not shown.isascii() or not shown.isdigit() or not 0 < len(shown.lstrip("0")) < 10:
-        raise argparse.ArgumentTypeError(f"{shorten(shown, 20)!r} is no number from 1 to 999999999")
+        raise argparse.ArgumentTypeError(
+            f"{shorten(shown, 20)!r} isn't a number from 1 to 999999999"
+        )
     return int(shown)

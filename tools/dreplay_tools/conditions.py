@@ -58,7 +58,7 @@ def parse(shown):
 def comparison(text):
     found = COMPARISON.fullmatch(text)
     if not found:
-        why = "it is no comparison, such as 'value > 100' or '@latency.p99 >= 1000000'"
+        why = "it isn't a comparison, such as 'value > 100' or '@latency.p99 >= 1000000'"
         raise Failure(f"--fail-if: {labels.printable(text.strip()[:60])!r}: {why}", FAILED)
     quantity = found["quantity"]
     is_percentile = quantity[:1] == "p" and percentiles.is_percent(quantity[1:])

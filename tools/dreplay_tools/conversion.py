@@ -53,7 +53,7 @@ class Losses:
         self.first_symbol = None, ""  # its line, and the argument
 
     def symbol(self, line, shown, calls=1):
-        """Calls, the first of them on a line, that have an argument which is no integer."""
+        """Calls, the first of them on a line, that have an argument which isn't an integer."""
         self.symbols += calls
         if self.first_symbol[0] is None or line < self.first_symbol[0]:
             args = strace.split(shown)[0]
@@ -76,7 +76,7 @@ class Losses:
             calls = say_count(self.symbols, "call has", "calls have")
             line, argument = self.first_symbol
             yield (
-                f"{calls} arguments that are no integers (line {line}: {argument}); these are "
+                f"{calls} arguments that aren't integers (line {line}: {argument}); these are "
                 "empty, which reads as 0: dreplay-record keeps numbers, and so does strace "
                 "-e raw='!execve,clone,clone3'"
             )
@@ -246,7 +246,7 @@ class Conversion:
         return self.head_of(thread)
 
     def without_symbols(self, columns, shown):
-        """Columns of an argument list in which the arguments that are no integers are empty."""
+        """Columns of an argument list in which the arguments that aren't integers are empty."""
         self.losses.symbol(self.line, shown)
         return columns.replace(SYMBOL, "")
 
@@ -279,7 +279,7 @@ class Conversion:
         elif strace.ENDED.match(event):
             self.forget(thread)
         elif not strace.SIGNAL.match(event):
-            raise BadLine("it is no call, signal or exit")
+            raise BadLine("it isn't a call, signal or exit")
 
     def entry(self, thread, time, name, shown):
         """A line that begins with a call: its entry, and its return where the line has it."""

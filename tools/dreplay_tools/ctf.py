@@ -43,7 +43,7 @@ class Lines:
             return []
         found = LINE.match(line)
         if not found:
-            raise BadEvent("it is no event as babeltrace2 prints it")
+            raise BadEvent("it isn't an event as babeltrace2 prints it")
         fields, arrays = fields_of(line, found.end())
         if found[6] == "perf_comm":
             self.comms[fields.get("tid")] = fields.get("comm")

@@ -18,7 +18,7 @@ class Unreadable(Exception):
 
 
 class BadEvent(Exception):
-    """A line that is no event, or whose event can't be told."""
+    """A line that isn't an event, or whose event can't be told."""
 
 
 def integer(shown):

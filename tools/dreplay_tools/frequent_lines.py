@@ -116,7 +116,7 @@ class Reader:
 
     def read(self, text):
         """The lines of a piece as they are read, how many returns have no duration, how many calls
-        have arguments that are no integers, and the line of the first of these with what it shows.
+        have arguments that aren't integers, and the line of the first of these with what it shows.
         """
         self.items, self.run, self.opened, self.ended = [], None, {}, {}
         self.line, self.undated, self.symbols, self.first_symbol = 0, 0, 0, None
@@ -210,7 +210,7 @@ class Reader:
         return True
 
     def without_symbols(self, columns, shown):
-        """Columns in which the arguments that are no integers are empty."""
+        """Columns in which the arguments that aren't integers are empty."""
         self.symbols += 1
         self.first_symbol = self.first_symbol or (self.line, shown)
         return columns.replace(SYMBOL, "")

@@ -163,7 +163,7 @@ class Lines:
                 "function_graph shows no time or no thread: "
                 "set its options funcgraph-abstime and funcgraph-proc"
             )
-        raise BadEvent("it is no event of a tracepoint or a probe")
+        raise BadEvent("it isn't an event of a tracepoint or a probe")
 
     def of_line(self, where, time, shown):
         """The events of a line that has where and when it was in front."""
@@ -192,7 +192,7 @@ class Lines:
             return [self.exit(where, time, name)] if name else []
         if function.startswith("/*"):
             return []  # an event among the functions is a comment there
-        raise BadEvent("it is no function")
+        raise BadEvent("it isn't a function")
 
     @staticmethod
     def entry(where, time, function):
@@ -216,7 +216,7 @@ def function_of(shown):
     """What the tracer 'function' shows: a function, and its caller."""
     found = CALLED.match(shown)
     if not found:
-        raise BadEvent("it is no function with its caller")
+        raise BadEvent("it isn't a function with its caller")
     return Probe("fbt", found[1], "entry")
 
 
@@ -231,7 +231,7 @@ def probe_of_text(shown, event, rest, names):
         return probe_of(system, event[1], rest.strip(), names)
     if CALLED.match(shown):
         return function_of(shown)
-    raise BadEvent("it is no event of a tracepoint or a probe")
+    raise BadEvent("it isn't an event of a tracepoint or a probe")
 
 
 def group_of(event):

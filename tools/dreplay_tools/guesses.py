@@ -60,7 +60,7 @@ def of_encoding(data):
             return meaning
     if b"\0" in data[:4096]:
         return (
-            "it has zero bytes, so it is no text, or UTF-16 without a mark: `iconv -f UTF-16 -t"
+            "it has zero bytes, so it isn't text, or is UTF-16 without a mark: `iconv -f UTF-16 -t"
             " UTF-8`"
         )
     return None
@@ -210,7 +210,7 @@ def of_columns(names):
         said.append(
             "it has "
             + ", ".join(f"`{name}`" for name in others[:5])
-            + ", which is no column of a trace"
+            + ", which isn't a column of a trace"
         )
     return said or ["a column is in the header twice"]
 
@@ -221,7 +221,7 @@ def of_recording(line):
 
 
 def of_number(name, shown):
-    """Why a field is no number of its column."""
+    """Why a field isn't a number of its column."""
     low, high = RANGES[name]
     if shown == name:
         return (
@@ -256,7 +256,7 @@ def of_number(name, shown):
         return "it has separators of thousands"
     if re.fullmatch(r"-?\d+", shown):
         return f"`{name}` is from {low} to {high}"
-    return "it is no number"
+    return "it isn't a number"
 
 
 def of_columns_of_row(fields, is_last):
@@ -271,7 +271,7 @@ def of_columns_of_row(fields, is_last):
 
 
 def of_usage(line):
-    """What was meant by a word that is no option."""
+    """What was meant by a word that isn't an option."""
     found = re.search(r"unexpected argument '(.{1,200})' found", line)
     if not found:
         return []

@@ -15,7 +15,7 @@ SHARE = "%"
 
 def escape(letter):
     """A letter that no terminal takes for a command, as D would write it: a control byte as
-    `\\x1b`, a byte that is no UTF-8 too.
+    `\\x1b`, a byte that isn't UTF-8 too.
     """
     code = ord(letter)
     if 0xDC80 <= code <= 0xDCFF:

@@ -323,7 +323,7 @@ def declarations(near):
 
 
 def globals_(near):
-    """A word that is assigned, or has keys, and is no variable."""
+    """A word that is assigned, or has keys, and isn't a variable."""
     token, word = near.token, near.text(0)
     before = ("->", ".", "$", "self", "this")
     if token.kind != "word" or token.place != BODY or near.text(-1) in before:
@@ -413,8 +413,8 @@ def formats(near):
             yield f"`{shown}`: there are no fractions: `%d`, and a width such as `%8d`"
         else:
             yield (
-                f"`{shown}` is no conversion here: there are `%d %i %u %x %o %s`, with a width and"
-                " `-` or `0`"
+                f"`{shown}` isn't a conversion here: there are `%d %i %u %x %o %s`, with a width"
+                " and `-` or `0`"
             )
 
 

@@ -10,21 +10,21 @@ def seconds(shown):
     found = re.fullmatch(r"(\d{1,10})(?:\.(\d{1,9}))?", shown, re.ASCII)
     if not found:
         raise argparse.ArgumentTypeError(
-            f"{quote(shown)} is no number of seconds, such as 2 or 0.25"
+            f"{quote(shown)} isn't a number of seconds, such as 2 or 0.25"
         )
     return int(found[1]) * 10**9 + int((found[2] or "0").ljust(9, "0"))
 
 
 def rows(shown):
     if not re.fullmatch(r"[1-9]\d{0,17}", shown, re.ASCII):
-        raise argparse.ArgumentTypeError(f"{quote(shown)} is no number of rows from 1 up")
+        raise argparse.ArgumentTypeError(f"{quote(shown)} isn't a number of rows from 1 up")
     return int(shown)
 
 
 def parts(shown):
     if not re.fullmatch(r"[1-9]\d{0,3}", shown, re.ASCII) or int(shown) > MAX_PARTS:
         raise argparse.ArgumentTypeError(
-            f"{quote(shown)} is no number of parts from 1 to {MAX_PARTS}"
+            f"{quote(shown)} isn't a number of parts from 1 to {MAX_PARTS}"
         )
     return int(shown)
 
@@ -32,14 +32,14 @@ def parts(shown):
 def jobs(shown):
     if not re.fullmatch(r"[1-9]\d?", shown, re.ASCII) or int(shown) > MAX_JOBS:
         raise argparse.ArgumentTypeError(
-            f"{quote(shown)} is no number of processes from 1 to {MAX_JOBS}"
+            f"{quote(shown)} isn't a number of processes from 1 to {MAX_JOBS}"
         )
     return int(shown)
 
 
 def process(shown):
     if not re.fullmatch(r"[1-9]\d{0,9}", shown, re.ASCII):
-        raise argparse.ArgumentTypeError(f"{quote(shown)} is no number of a process")
+        raise argparse.ArgumentTypeError(f"{quote(shown)} isn't a number of a process")
     return int(shown)
 
 

@@ -23,7 +23,7 @@ def is_regular(path):
 
 class Replaced:
     """A file that takes its place only when all of it is there, with the mode of the one that it
-    replaces. What is no regular file, such as a pipe, is written as it is. A link stays, as
+    replaces. What isn't a regular file, such as a pipe, is written as it is. A link stays, as
     /dev/stdout is one.
     """
 

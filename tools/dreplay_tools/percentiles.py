@@ -17,7 +17,7 @@ def percents(shown):
         raise argparse.ArgumentTypeError(f"these are more than {MAX_PERCENTS} percentiles")
     for percent in found:
         if not is_percent(percent):
-            why = f"{percent[:20]!r} is no percent above 0 and up to 100, such as 50 or 99.9"
+            why = f"{percent[:20]!r} isn't a percent above 0 and up to 100, such as 50 or 99.9"
             raise argparse.ArgumentTypeError(why)
     return tuple(found)
 

@@ -49,7 +49,7 @@ def events_of(line, names):
             return [Lost(int(lost[1]))]
         if FRAME.match(line) and line.rstrip().endswith(")"):
             return []  # of a stack. A name such as dd has the digits of an address, too
-        raise BadEvent("it is no event of a tracepoint or a probe")
+        raise BadEvent("it isn't an event of a tracepoint or a probe")
     name, first, second, cpu, time, event, rest = found
     system, function = EVENT.fullmatch(event).groups() if EVENT.fullmatch(event) else ("", "")
     if not system or MODIFIERS.fullmatch(function):
@@ -130,7 +130,7 @@ def events_of_record(line, names, signs):
         }
         probe = probe_of_fields(system, function, fields, args, names)
     except (ValueError, KeyError, TypeError, AttributeError, RecursionError):
-        raise BadEvent("it is no record of recorders/perf.py")
+        raise BadEvent("it isn't a record of recorders/perf.py")
     return [Event(name, thread, process if process in NUMBERS else None, cpu, time, probe)]
 
 

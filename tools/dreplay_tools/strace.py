@@ -51,7 +51,7 @@ MIDNIGHT = 24 * 60 * 60 * 10**9
 THE_THREAD = "1"  # of a recording that shows none, as that of strace without -f
 
 BEGINNING = re.compile(r"\d{1,10}(?: +[\d.]*)?", re.ASCII)  # of a line, and no more
-SYMBOL = "*"  # stands for an argument that is no integer, such as O_RDONLY
+SYMBOL = "*"  # stands for an argument that isn't an integer, such as O_RDONLY
 
 
 class BadLine(Exception):

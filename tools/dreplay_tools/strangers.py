@@ -38,7 +38,7 @@ KINDS = {
     "ctf file": "it is a file of CTF: give the folder that it is in to dreplay-from-ctf",
     "answer": "it is an answer of dreplay-data: give it to dreplay-show",
     "utf-16": "it is in UTF-16: recode it by 'iconv -f UTF-16 -t UTF-8'",
-    "binary": "it is no text",
+    "binary": "it isn't text",
     "strace": "it is a recording of strace: give it to dreplay-from-strace",
     "perf": "it is of 'perf script': give it to dreplay-from-perf",
     "ftrace": "it is of the kernel's tracer: give it to dreplay-from-ftrace",
@@ -95,7 +95,7 @@ def kinds_of_lines(recording):
 
 
 def refuse_strangers(recording, own):
-    """Refuses what is no text, or the text of another program. The recording is read from its start
+    """Refuses what isn't text, or the text of another program. The recording is read from its start
     again.
     """
     start = recording.tell()

@@ -23,7 +23,7 @@ def write(file, out):
     )
     try:
         if next(rows, None) != COLUMNS:
-            raise Failure("-t: this is no trace, as its first line isn't the header of one")
+            raise Failure("-t: this isn't a trace, as its first line isn't the header of one")
         out.write('{"displayTimeUnit": "ns", "traceEvents": [')
         between, events = "\n", Events()
         for event in itertools.chain.from_iterable(events.of(row) for row in rows if row):

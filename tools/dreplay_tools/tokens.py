@@ -169,7 +169,7 @@ def decode(data):
 
 
 def value(shown):
-    """The number that a token of the kind `number` is, or none if it is no number of D."""
+    """The number that a token of the kind `number` is, or none if it isn't a number of D."""
     found = NUMBER.fullmatch(shown)
     if not found:
         return None

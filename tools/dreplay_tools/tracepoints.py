@@ -33,7 +33,7 @@ DEVICE_BITS = 20
 
 @dataclass
 class Probe:
-    """The names of a probe, and its arguments: integers, and none for what is no integer.
+    """The names of a probe, and its arguments: integers, and none for what isn't an integer.
 
     `lacking` says why arguments are missing that the event has.
     """
@@ -82,11 +82,11 @@ def call_of(event, rest):
         return None
     if call[1] == "enter":
         args = read_named(rest)
-        lacking = "an argument is no hexadecimal number" if None in args else ""
+        lacking = "an argument isn't a hexadecimal number" if None in args else ""
         return Probe("syscall", call[2], "entry", args, lacking=lacking)
     value = hexadecimal(rest.strip())
     if value is None:
-        raise BadEvent("what the call returned is no hexadecimal number")
+        raise BadEvent("what the call returned isn't a hexadecimal number")
     return Probe("syscall", call[2], "return", give_back(value))
 
 

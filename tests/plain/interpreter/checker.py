@@ -150,7 +150,7 @@ class Checker:
             self.whole(statement)
 
     def whole(self, expression):
-        """The type of an expression that is no part of another."""
+        """The type of an expression that isn't part of another."""
         found = self.expression(expression)
         self.count_registers(expression)
         return found

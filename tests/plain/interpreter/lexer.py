@@ -74,7 +74,7 @@ class Lexer:
         return len(self.script) if stop < 0 else stop
 
     def skip(self):
-        """Goes over all that is no token. Tells whether a token is left."""
+        """Goes over all that isn't a token. Tells whether a token is left."""
         while True:
             self.go_to(BLANKS.match(self.script, self.at).end())
             if self.script.startswith(b"/*", self.at):
@@ -186,8 +186,8 @@ class Lexer:
         return made
 
     def is_before_a_body(self):
-        """Whether the next token is an opening brace. A comment without an end is no token, and is
-        refused later."""
+        """Whether the next token is an opening brace. A comment without an end isn't a token, and
+        is refused later."""
         at = BLANKS.match(self.script, self.at).end()
         while self.script.startswith(b"/*", at):
             stop = self.script.find(b"*/", at + 2)
