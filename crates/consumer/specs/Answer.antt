@@ -39,7 +39,7 @@ abbrev pub IsAnswer : LayoutMeant → (script trace : List ℕ) → Result Outpu
 IsAnswer shows script trace (Ok output) = HasAnswer shows script trace output
 IsAnswer shows script trace (Err e) = IsRefusal script trace e
 
--- the refusal without the line of Syntax, which is no part of the answer
+-- the refusal without the line of Syntax, which isn't part of the answer
 abbrev pub without_line : Refusal → Refusal
 without_line (Parse (Syntax line)) = Parse (Syntax 0)
 without_line e = e

@@ -16,7 +16,7 @@ abbrev pub IsGroupedBy : GroupPlan → List Firing → Grouping → Type 0
 IsGroupedBy (Dealt n) trace grouping = IsDealt n trace grouping
 IsGroupedBy (Lists lists) trace grouping = IsListed (map (λ v. v.items) lists.items) trace grouping
 
--- the plan's lists are no groups of the trace, first for this reason
+-- the plan's lists aren't groups of the trace, first for this reason
 abbrev pub IsMisgrouped : GroupPlan → List Firing → GroupFault → Type 0
 IsMisgrouped (Dealt n) trace fault = ⊥
 IsMisgrouped (Lists lists) trace fault = IsListFault (map (λ v. v.items) lists.items) trace fault

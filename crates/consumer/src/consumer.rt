@@ -12,7 +12,7 @@ pub struct Consumer<'a, R, L> {
     pub rt: &'a R,
     pub alloc: Global,
     pub layout: L,
-    /// By which all maps of a run hash. No answer depends on it.
+    /// The key by which all maps of a run hash. No answer depends on it.
     pub hash_key: HashKey,
 }
 

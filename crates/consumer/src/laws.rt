@@ -151,7 +151,7 @@ pub fn help_is_found()
         → fault_of program arguments ≡ DisplayHelp ∷ [] }
 {}
 
-/// `-s` without a file is a mistake, and so is an argument that is no option.
+/// `-s` without a file is a mistake, and so is an argument that isn't an option.
 pub fn mistakes_are_found()
     ensures { (arguments : List (List ℕ)) (kind : ErrorKind) → Mistakes arguments kind
         → fault_of program arguments ≡ kind ∷ [] }

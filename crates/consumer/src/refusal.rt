@@ -32,7 +32,7 @@ pub enum Refusal {
     /// The trace's first fault.
     #[error(transparent)]
     Trace(TraceFault),
-    /// Why the plan's lists are no groups of the trace's threads.
+    /// Why the plan's lists aren't groups of the trace's threads.
     #[error(transparent)]
     Group(GroupFault),
     /// Memory ran out.

@@ -78,7 +78,7 @@ fn zero_from(bytes: &[u8]) -> Option<(u64, Suffix)>
 }
 
 /// The value and the suffix that a run of letters and digits spells, given by its first digit and
-/// the rest; none if the run is no number, or one over 2^64-1.
+/// the rest; none if the run isn't a number, or is one over 2^64-1.
 #[tactic(auto, unfolding(crate::specs::Steps::Numbers::number_spelled))]
 pub(crate) fn number_of(b: u8, rest: &[u8]) -> Option<(u64, Suffix)>
     requires { is_ascii_digit b ≡ true }

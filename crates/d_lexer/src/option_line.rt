@@ -44,7 +44,7 @@ fn spaces(bytes: &[u8]) -> Option<&[u8]>
     }
 }
 
-// Whether a line may end so.
+// Whether a line may end with these bytes.
 fn is_trail(bytes: &[u8]) -> bool
     ensures { result ≡ spec.is_trail bytes.now }
 {

@@ -135,7 +135,7 @@ pub(crate) fn is_typed(tokens: &[Token]) -> bool
     }
 }
 
-// If these words are no integer type: the tokens from the first that can't follow.
+// If these words aren't an integer type: the tokens from the first that can't follow.
 fn rest_without_cast<'a>(words: &[Token], tokens: &'a [Token]) -> &'a [Token] {
     match words {
         [first, ..] if matches!(kind_of(first), WordKind::Text) => tokens,

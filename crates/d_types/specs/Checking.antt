@@ -160,7 +160,7 @@ abbrev mutual
   expressions Trees.end = gives end
   expressions (Trees.more a all) = expression a >>= λ x. expressions all >>= λ xs. gives (more x xs)
 
--- an expression that is no part of another
+-- an expression that isn't part of another
 abbrev pub whole : Tree → Checked Typed
 whole t = do
   x ← expression t

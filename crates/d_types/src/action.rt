@@ -21,7 +21,7 @@ use d_parser::{Constant, Expr};
 use d_values::DType;
 use std::alloc::Global;
 
-/// The typed trees of whole expressions, which are no parts of others.
+/// The typed trees of whole expressions, which aren't parts of others.
 #[tactic(auto, using(crate::proofs::Rows::typeds_push))]
 pub(crate) fn wholes(
     alloc: Global,

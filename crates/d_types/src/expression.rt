@@ -456,7 +456,7 @@ pub(crate) fn exprs(
     Ok(done)
 }
 
-/// The typed tree of a whole expression, which is no part of another.
+/// The typed tree of a whole expression, which isn't part of another.
 pub(crate) fn whole(alloc: Global, table: &mut Vec<Entry>, e: &Expr) -> Result<TypedExpr, TypeFault>
     ensures { Gives (λ x. (typed_of x, rows_of_entries table.new.items)) result
         (spec.whole (rows_of_entries table.old.items) (tree_of e.now)) }

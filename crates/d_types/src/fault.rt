@@ -11,7 +11,7 @@ use thiserror::Error;
 /// Why a script is refused. The line is that of the first token of the refused construct.
 #[derive(Debug, Drop, Error)]
 pub enum TypeFault {
-    /// A word that is no variable is assigned.
+    /// A word that isn't a variable is assigned.
     GlobalAssignment { name: ByteString, line: usize },
     /// A word that names nothing, or a variable that is read before its type is known.
     Undeclared { line: usize },

@@ -46,8 +46,8 @@ pub fn variables_keep_their_types()
     ensures own { (slots : Slots) → AreTypedOwn slots (λ var key. blank var.kind) }
 {}
 
-/// The built-ins of every firing are values of their types, by those of its fields. It reads them
-/// for its proof alone: nothing of it is left in a program.
+/// The built-ins of every firing are values of their types, as its fields are of theirs. This reads
+/// them for its proof alone: nothing of it is left in a program.
 pub fn built_ins_are_of_their_types(firing: &Firing)
     ensures { HasTypedBuiltIns firing.now }
 {

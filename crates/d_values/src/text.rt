@@ -12,7 +12,7 @@ use std::cmp::Ordering;
 use std::hash::{Hash, Hasher};
 use std::marker::Model;
 
-/// A byte string. Contracts see the list of its bytes: how it lies in memory is no part of its
+/// A byte string. Contracts see the list of its bytes: how it lies in memory isn't part of its
 /// value.
 #[derive(Drop, Debug)]
 pub struct Text {

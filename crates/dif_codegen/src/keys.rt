@@ -88,7 +88,7 @@ pub(crate) fn save(draft: &mut Difo, target: Target<'_>, r: u8, a: Reg) -> Resul
     }
 }
 
-/// Brings a value from after the keys to where they began.
+/// Moves a value from behind the keys to where they begin.
 pub(crate) fn lower(draft: &mut Difo, keys: &[TypedExpr], a: Reg, d: Reg) -> Result<(), AllocError>
     ensures { OnOk result (Adds (lowering (typeds_of keys.now) a d) draft.old draft.new) }
 {

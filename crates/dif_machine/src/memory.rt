@@ -76,10 +76,10 @@ pub trait Memory {
 /// A variable, as an instruction names it.
 #[derive(Clone, Copy, Debug)]
 pub(crate) enum Variable {
-    /// Of the clause.
+    /// A variable of the clause.
     Local(Var),
-    /// Of the thread, without a key.
+    /// A variable of the thread, without a key.
     Scalar(Var),
-    /// Of the thread, at the tuple.
+    /// A variable of the thread, at the tuple.
     Element(Var),
 }

@@ -3,7 +3,7 @@
 ghost use Rattle.std.specs.Prelude.{◌≡◌, ◌≤◌, ◌<◌, ◌+◌, ◌↔◌, IsTrue, length, take, drop};
 ghost use Rattle.std.specs.Int.{from_le_bytes, w32, w64};
 
-/// The eight bytes from a place on, as one number.
+/// The eight bytes from an index on, as one number.
 ///
 /// ```text
 /// word_at(b"abbbbbbbb", 1); // 0x6262_6262_6262_6262
@@ -19,7 +19,7 @@ pub fn word_at(bytes: &[u8], at: usize) -> u64
     ])
 }
 
-// The four bytes from a place on, as one number.
+// The four bytes from an index on, as one number.
 #[inline(always)]
 fn half_at(bytes: &[u8], at: usize) -> u32
     requires { at + 4 ≤ length bytes.now }

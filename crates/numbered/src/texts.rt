@@ -21,7 +21,7 @@ pub struct Texts {
     texts: IndexSet<Text, HashKey>,
     cache: IndexCache,
     secret: u64,
-    // The text that was sought last, for its room.
+    // The text that was sought last, whose memory is used again.
     spare: Text,
 }
 
@@ -173,7 +173,7 @@ fn hash(secret: u64, bytes: &[u8]) -> u64 {
     mix(mix(secret ^ len as u64, first), last) >> 32
 }
 
-// Four bytes from a place on, as one number.
+// Four bytes from an index on, as one number.
 #[inline(always)]
 fn half_at(bytes: &[u8], at: usize) -> u64
     requires { at + 4 ≤ length bytes.now }

@@ -81,7 +81,7 @@ pub(crate) fn by_names<'a>(shown: &'a [u8]) -> Option<Named<'a>> {
     None
 }
 
-// An argument: empty if it is no number, and None if it begins as one and isn't.
+// An argument: empty if it isn't a number, and None if it only begins as one.
 fn named_argument(shown: &[u8]) -> Option<Option<i64>> {
     if shown == HERE {
         return Some(Some(HERE_NUMBER));

@@ -21,7 +21,7 @@ const SCALES: [u64; 10] = [
     1,
 ];
 
-/// The number that decimal digits write: one at least, and at most `most`.
+/// The number that decimal digits write, of which there are 1 to `most`.
 #[inline(always)]
 pub(crate) fn decimal(shown: &[u8], most: usize) -> Option<(u64, &[u8])> {
     let (count, number) = read_digits(shown, 0, 0);
@@ -31,7 +31,7 @@ pub(crate) fn decimal(shown: &[u8], most: usize) -> Option<(u64, &[u8])> {
     Some((number, &shown[count..]))
 }
 
-// The value of a hexadecimal digit, of which letters are small.
+// The value of a hexadecimal digit, whose letters are in lower case.
 #[inline(always)]
 fn digit_value(byte: u8) -> Option<u64> {
     match byte {

@@ -20,7 +20,7 @@ pub(crate) struct Processes<'a> {
     programs: BTreeMap<u64, Word<'a>>,
     // The owner that was asked for last, unless something has changed since.
     last: Option<Owner<'a>>,
-    // Whether a thread came that no call began. Of a second one there is something to say.
+    // Whether a thread came that no call began. The conversion stops at a second one.
     has_stranger: bool,
 }
 

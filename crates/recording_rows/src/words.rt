@@ -20,7 +20,7 @@ pub(crate) fn is_plain_byte(byte: u8) -> bool
     32 <= byte && byte <= 126 && byte != b'"' && byte != b','
 }
 
-// Whether a field may have all these bytes so.
+// Whether a field may have all these bytes without quotes around it.
 fn are_plain(bytes: &[u8]) -> bool
     ensures { IsTrue result ↔ EachIndex bytes.now (λ k. is_plain (slice_index bytes.now k) ≡ true) }
 {

@@ -1,4 +1,4 @@
-//! Why pieces are no whole.
+//! Why pieces aren't a whole.
 
 ghost use Rattle.std.specs.Prelude.{◌≡◌};
 ghost use Rattle.replay_core.specs.declared.collect_fault.CollectFault.TheVariants.{Memory};

@@ -57,8 +57,8 @@ pub fn sorted_in_one_way()
     ensures { (items xs ys : List (ℕ × List ℕ)) → IsSorted items xs → IsSorted items ys → xs ≡ ys }
 {}
 
-/// Without an exit a run is over the whole trace: BEGIN, all rows, and END. In a script if no
-/// statement exits the status is 0 besides.
+/// Without an exit a run is over the whole trace: BEGIN, all rows, and END. If no statement of the
+/// script exits, the status is 0, too.
 pub fn without_exit()
     ensures script { (m : ScriptMeant) (trace : List Firing) → has_exit m ≡ false
         → (firings_over m trace ≡ with_ends trace trace)

@@ -38,7 +38,7 @@ fn pieces_of(
     Ok(pieces)
 }
 
-// Why pieces of these groups are no whole of two groups, if they are none.
+// Why pieces of these groups aren't a whole of two groups, if they aren't one.
 fn fault_of(
     alloc: Global,
     script: &TypedScript,

@@ -203,7 +203,7 @@ fn has_run(replayed: &Replayed, groups: &[u32], ran: &[&[u64]]) -> bool {
 // What a replay shows, its status, the groups that the one worker took, and what ran in them.
 type Wanted<'a> = (&'a [u8], u8, &'a [u32], &'a [&'a [u64]]);
 
-// Whether a replay is so.
+// Whether a replay is the expected one.
 fn replays_as<R: AllocGlobal + Threads + Wait + Sync>(
     rt: &R,
     script: &[u8],

@@ -25,13 +25,13 @@ fn listing(alloc: Global, script: &str) -> Result<String, AllocError> {
     format!(in alloc; "{program}")
 }
 
-// Whether the program of a script shows so.
+// Whether the program of a script shows this text.
 fn is_listed(alloc: Global, script: &str, wanted: &str) -> Result<bool, AllocError> {
     let shown = listing(alloc, script)?;
     Ok(shown.as_str() == wanted)
 }
 
-// Asserts that the program of each script shows so.
+// Asserts that the program of each script shows its text.
 fn check_rows(rt: &impl Abort, alloc: Global, rows: &[(&str, &str)]) -> Result<(), AllocError> {
     for (script, wanted) in rows {
         let is_listed = is_listed(alloc, script, wanted)?;

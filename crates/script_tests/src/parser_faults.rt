@@ -47,7 +47,7 @@ fn is_traced(
     has_tree(alloc, &script, tree)
 }
 
-// Whether a nested expression prints so.
+// Whether a nested expression prints as this text.
 fn is_printed(
     alloc: Global,
     times: usize,

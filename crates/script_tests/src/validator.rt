@@ -561,7 +561,7 @@ fn valid_objects_return_their_kinds(rt: HostRuntime) -> Result<(), Fail> {
     Ok(())
 }
 
-// Whether an instruction prints so.
+// Whether an instruction prints as this text.
 fn prints(alloc: Global, instr: Instr, text: &str) -> Result<bool, AllocError> {
     let shown = format!(in alloc; "{instr}")?;
     Ok(shown.as_str() == text)

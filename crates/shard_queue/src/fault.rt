@@ -1,4 +1,4 @@
-//! Why lists of threads are no groups of a trace.
+//! Why lists of threads aren't groups of a trace.
 
 ghost use Rattle.std.specs.Prelude.{◌≡◌};
 ghost use Rattle.shard_queue.specs.declared.fault.GroupFault.TheVariants.{Memory};

@@ -118,7 +118,7 @@ pub fn read_block<F: Feed>(
     Err(ReadFault::Failed)
 }
 
-// Whether a line ends in the bytes from a place on.
+// Whether a line ends in the bytes from an index on.
 fn ends_line(bytes: &[u8], from: usize) -> bool {
     for at in from..bytes.len() {
         if bytes[at] == b'\n' || bytes[at] == b'\r' {

@@ -95,7 +95,7 @@ fn drawn_blocks<'a>(
     Ok(blocks)
 }
 
-// Whether a trace is read the same in one way.
+// Whether a trace is read the same in this way.
 fn is_same_by<R: Threads>(
     rt: &R,
     alloc: Global,

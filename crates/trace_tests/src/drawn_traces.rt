@@ -95,7 +95,7 @@ fn other(chance: &mut Chance, column: usize) -> &'static str {
     }
 }
 
-// A field of a row with this number. One in `rare` is no plain one.
+// A field of a row with this number. One in `rare` isn't plain.
 fn field<'a>(chance: &mut Chance, column: usize, number: &'a str, rare: usize) -> &'a str {
     if chance.below(rare) == 1 {
         other(chance, column)
@@ -127,7 +127,7 @@ fn add_fields(
     Ok(())
 }
 
-// Adds a row with this number. The end of one row in `rare` is no plain one.
+// Adds a row with this number. The end of one row in `rare` isn't plain.
 fn add_row(
     bytes: &mut Vec<u8>,
     chance: &mut Chance,

@@ -11,7 +11,7 @@ use Rattle.d_types.specs.Words.{callee_named}
 use Rattle.d_types.specs.Variables.{Rows}
 use Rattle.d_types.specs.Steps.Typing.{only, whole}
 
--- expressions that are no parts of others, after those that are typed
+-- expressions that aren't parts of others, after those that are typed
 abbrev pub wholes : Typeds → Rows → Trees → Result (Typeds × Rows) Fault
 wholes done rows Trees.end = Ok (done, rows)
 wholes done rows (Trees.more a rest) = whole rows a >>= λ x. wholes (with_typed done x.0) x.1 rest
@@ -49,7 +49,7 @@ abbrev pub text_of_constant : Tree → Option (List ℕ)
 text_of_constant (Tree.Known line (Constant.Text bytes)) = Some bytes
 text_of_constant t = None
 
--- the format is a text constant, which is no value
+-- the format is a text constant, which isn't a value
 abbrev pub print : ℕ → Rows → Trees → Result (Action × Rows) Fault
 print line rows Trees.end = not_printed line rows Trees.end
 print line rows (Trees.more first rest) = print_by (text_of_constant first) line rows first rest

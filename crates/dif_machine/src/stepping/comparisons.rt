@@ -45,7 +45,7 @@ pub(super) fn scmp(machine: &mut Machine, a: Reg, b: Reg) -> Step
     Ok(Onward::Next)
 }
 
-/// `bCOND to`: goes to an index if the last comparison is so.
+/// `bCOND to`: goes to an index if COND holds of the last comparison.
 #[inline(always)]
 #[tactic(auto, using(crate::proofs::Executing::still_lasts, crate::proofs::Holding::keeps_refl))]
 pub(super) fn branch(machine: &mut Machine, condition: Condition, to: usize) -> Step

@@ -21,7 +21,7 @@ pub struct Piece {
     pub(crate) taken: Vec<u64>,
     // The number of the first that exited, and its status.
     pub(crate) exit: Option<(u64, u8)>,
-    // The words of the key that was made last, for their room.
+    // The words of the key that was made last, whose memory is used again.
     pub(crate) key: Vec<Word>,
     ghost noted: { All (λ event. ∥ Contains taken.items event.0 ∥₁) events.items },
 }

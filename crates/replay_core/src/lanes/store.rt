@@ -17,7 +17,7 @@ pub trait Store: Drop + Sized {
     /// What contracts see of it.
     ghost seen: { Self → StoreSeen };
 
-    /// What it knows of a firing is so.
+    /// What it knows of a firing is true of that firing.
     ghost knows: { Self → Recorded → Type 0 };
 
     /// Variables of which none is set. The hashes of its maps have this key.

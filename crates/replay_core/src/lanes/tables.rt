@@ -20,7 +20,7 @@ pub struct Tables {
     pub(crate) locals: ClauseLocals,
     /// What its thread keeps.
     pub(crate) own: ThreadTable,
-    // That thread.
+    // The number of that thread.
     thread: i32,
     // What the others keep.
     others: IndexMap<i32, ThreadTable, HashKey>,
