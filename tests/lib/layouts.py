@@ -1,5 +1,4 @@
-"""Whether the crates, and the programs in Rattle outside of them, are laid out as `rt fmt` lays them
-out."""
+"""Whether the crates, and the programs in Rattle outside of them, are as `rt fmt` leaves them."""
 import glob
 import os
 import shutil

@@ -30,7 +30,7 @@ pub(crate) enum Held {
 }
 
 impl Held {
-    // How many there were, if that is held.
+    /// How many there were, if that is held.
     pub(crate) fn count(&self) -> u64
         ensures { result ≡ spec.count_of self.now }
     {
@@ -41,7 +41,7 @@ impl Held {
         }
     }
 
-    // Their total, the least or the greatest.
+    /// Their total, the least or the greatest.
     pub(crate) fn number(&self) -> i64
         ensures { result ≡ spec.number_of self.now }
     {
@@ -52,7 +52,7 @@ impl Held {
         }
     }
 
-    // Takes this many more arguments, all equal to this number. A histogram stays as it is.
+    /// Takes this many more arguments, all equal to this number. A histogram stays as it is.
     #[tactic(auto, using(std::proofs::lemmas::Int::wrapping_add_is))]
     pub(crate) fn take(&mut self, number: i64, count: u64)
         requires { spec.count_of self.old + count ≤ 2 ^ 52 }

@@ -40,7 +40,7 @@ impl Histogram {
     ghost use Rattle.aggregations.specs.Histograms.{IsSpan, histogram_of};
     ghost use Rattle.aggregations.specs.Steps.Histograms.{with_more};
 
-    // A histogram without arguments.
+    /// A histogram without arguments.
     #[tactic(auto, using(crate::proofs::HistogramLemmas::kept_none))]
     pub(crate) fn new(alloc: Global, scale: Scale) -> Histogram
         ensures { result ≡ histogram_of scale [] }
@@ -131,7 +131,7 @@ impl Histogram {
         put_more(&mut self.used, bucket, more)
     }
 
-    // Takes one more argument.
+    /// Takes one more argument.
     pub(crate) fn note(&mut self, arg: i64) -> Result<(), AllocError>
         requires { sum self.old.counts < 2 ^ 52 }
         ensures value { AllOrNothing result self.old self.new ((scale : Scale) (args : List ℤ)
@@ -143,7 +143,7 @@ impl Histogram {
         self.add(bucket, 1)
     }
 
-    // Takes the arguments of another histogram of the scale too.
+    /// Takes the arguments of another histogram of the scale too.
     pub(crate) fn join(&mut self, other: &Histogram) -> Result<(), AllocError>
         requires { sum self.old.counts + sum other.now.counts ≤ 2 ^ 52 }
         ensures value { OnOk result ((scale : Scale) (xs ys : List ℤ)

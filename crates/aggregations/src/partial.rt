@@ -32,7 +32,7 @@ impl Partial {
     ghost use Rattle.aggregations.specs.Values.{IsValue, count_in};
     ghost use Rattle.aggregations.specs.Steps.Values.{TakesBoth, TakesOne};
 
-    // The value of one argument.
+    /// The value of one argument.
     #[tactic(auto, using(crate::proofs::ValueLemmas::sum_none))]
     pub(crate) fn of_one(alloc: Global, function: AggFn, arg: i64) -> Result<Partial, AllocError>
         ensures value { IfOk result (λ p. IsValue function p (arg ∷ [])) }
@@ -56,7 +56,7 @@ impl Partial {
         Ok(Partial { held })
     }
 
-    // Takes one more argument.
+    /// Takes one more argument.
     pub(crate) fn note(&mut self, arg: i64) -> Result<(), AllocError>
         requires { count_in self.old < 2 ^ 52 }
         ensures value { AllOrNothing result self.old self.new (TakesOne self.old arg self.new) }
@@ -69,7 +69,7 @@ impl Partial {
         Ok(())
     }
 
-    // Takes the arguments of another entry of the function too.
+    /// Takes the arguments of another entry of the function too.
     pub(crate) fn join(&mut self, other: &Partial) -> Result<(), AllocError>
         requires { count_in self.old + count_in other.now ≤ 2 ^ 52 }
         ensures value { OnOk result (TakesBoth self.old other.now self.new) }

@@ -135,7 +135,7 @@ pub(crate) const HELP: Help = Help {
     more: "No more.",
 };
 
-// Gives answers in the layout for people.
+/// Gives answers in the layout for people.
 pub(crate) fn reporting<R: AllocGlobal>(rt: &R) -> Consumer<'_, R, Report> {
     Consumer::new(rt, rt.alloc(), Report)
 }

@@ -21,7 +21,7 @@ fn write_to_memory(
     (answer, sink.into_inner().into_inner())
 }
 
-// Reads from memory one byte a call, to the end.
+/// Reads from memory one byte a call, to the end.
 pub(crate) fn read(alloc: Global, bytes: &[u8], good_calls: u64) -> Result<Vec<u8>, ReadFault> {
     let mut feed = Watched::new(Faulty::new(bytes, good_calls));
     let mut reading = Reading::new(alloc)?;

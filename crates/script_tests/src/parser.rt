@@ -123,7 +123,7 @@ const EXPRESSIONS: [(&str, &str); 60] = [
     ("\"\" == \"a\\n\\\"\\\\\"", "(\"\" == \"a\\n\\\"\\\\\")"),
 ];
 
-// Whether a script has this tree.
+/// Whether a script has this tree.
 pub(crate) fn has_tree(alloc: Global, script: &str, tree: &str) -> Result<bool, AllocError> {
     let shown = tree_text(alloc, script.as_bytes())?;
     Ok(shown.as_str() == tree)
