@@ -16,13 +16,13 @@ pub(crate) const NOWHERE: u32 = u32::MAX;
 /// The index of a thing, and the upper half of its hash.
 #[derive(Clone, Copy)]
 pub(crate) struct Slot {
-    tag: u32,
+    hash: u32,
     pub(crate) index: u32,
 }
 
 impl Slot {
     const EMPTY: Slot = Slot {
-        tag: 0,
+        hash: 0,
         index: NOWHERE,
     };
 
@@ -30,8 +30,8 @@ impl Slot {
         self.index == NOWHERE
     }
 
-    pub(crate) fn is_of(self, tag: u32) -> bool {
-        self.tag == tag
+    pub(crate) fn is_of(self, hash: u32) -> bool {
+        self.hash == hash
     }
 }
 
@@ -57,12 +57,12 @@ impl Slots {
         })
     }
 
-    /// The tag of bytes. The last eight may overlap those before, so how many there are is hashed
+    /// The hash of bytes. The last eight may overlap those before, so how many there are is hashed
     /// too.
     #[inline(always)]
-    pub(crate) fn tag(&self, key: &[u8]) -> u32 {
+    pub(crate) fn hash(&self, key: &[u8]) -> u32 {
         if key.len() < 8 {
-            return self.short_tag(key);
+            return self.short_hash(key);
         }
         let mut hash = self.secret;
         for word in 0..key.len() / 8 {
@@ -72,8 +72,8 @@ impl Slots {
         (mix(hash, key.len() as u64) >> 32) as u32
     }
 
-    // The tag of fewer bytes than a word has.
-    fn short_tag(&self, key: &[u8]) -> u32 {
+    // The hash of fewer bytes than a word has.
+    fn short_hash(&self, key: &[u8]) -> u32 {
         let mut hash = self.secret;
         for b in key {
             hash = mix(hash, u64::from(*b));
@@ -81,20 +81,20 @@ impl Slots {
         (hash >> 32) as u32
     }
 
-    /// The slot that is `n` after the first for a tag.
+    /// The slot that is `n` after the first for a hash.
     #[inline(always)]
-    pub(crate) fn near(&self, tag: u32, n: usize) -> Slot {
-        let at = (tag as usize).wrapping_add(n) & self.slots.len().wrapping_sub(1);
+    pub(crate) fn near(&self, hash: u32, n: usize) -> Slot {
+        let at = (hash as usize).wrapping_add(n) & self.slots.len().wrapping_sub(1);
         *self.slots.get(at).unwrap_or(&Slot::EMPTY)
     }
 
     /// Notes a new index, or returns None if memory is refused. If no slot near its first is
     /// free, it won't be found.
-    pub(crate) fn note(&mut self, tag: u32, index: u32) -> Option<()> {
+    pub(crate) fn note(&mut self, hash: u32, index: u32) -> Option<()> {
         if self.used > self.slots.len() / 4 {
             self.grow()?;
         }
-        put(&mut self.slots, Slot { tag, index });
+        put(&mut self.slots, Slot { hash, index });
         self.used = self.used.wrapping_add(1);
         Some(())
     }
@@ -121,10 +121,10 @@ impl Slots {
     }
 }
 
-// Puts a slot at the first free place of those for its tag.
+// Puts a slot at the first free place of those for its hash.
 fn put(slots: &mut [Slot], slot: Slot) {
     for n in 0..NEAR {
-        let at = (slot.tag as usize).wrapping_add(n) & slots.len().wrapping_sub(1);
+        let at = (slot.hash as usize).wrapping_add(n) & slots.len().wrapping_sub(1);
         if at < slots.len() && slots[at].is_empty() {
             slots[at] = slot;
             return;

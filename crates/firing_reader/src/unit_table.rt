@@ -133,14 +133,14 @@ impl<E: PlainEntry> UnitTable<E> {
         is_plain == plain && is_same(bytes, key)
     }
 
-    // The index of the unit of these bytes and this tag, if it is found.
+    // The index of the unit of these bytes and this hash, if it is found.
     #[inline(always)]
-    fn find(&self, key: &[u8], plain: bool, tag: u32) -> Option<u32>
+    fn find(&self, key: &[u8], plain: bool, hash: u32) -> Option<u32>
         ensures { IfSome result (IsUnitOf E.reads self.now key.now plain) }
     {
         for n in 0..NEAR {
-            let slot = self.slots.near(tag, n);
-            if slot.is_of(tag) && self.is_at(slot.index, key, plain) {
+            let slot = self.slots.near(hash, n);
+            if slot.is_of(hash) && self.is_at(slot.index, key, plain) {
                 return Some(slot.index);
             }
             if slot.is_empty() {
@@ -151,7 +151,7 @@ impl<E: PlainEntry> UnitTable<E> {
     }
 
     // Keeps a unit at a new index. If memory is refused, nothing is kept.
-    fn push(&mut self, key: &[u8], plain: bool, tag: u32, entry: E) -> Option<u32>
+    fn push(&mut self, key: &[u8], plain: bool, hash: u32, entry: E) -> Option<u32>
         requires inside { E.is_in entry key.now }
         requires reads { plain ≡ true → E.reads entry key.now }
         ensures { MatchOption result (self.new ≡ self.old)
@@ -163,13 +163,13 @@ impl<E: PlainEntry> UnitTable<E> {
         make_room(&mut self.known)?;
         add_bytes(&mut self.bytes, key)?;
         self.known.push_reserved(Known {
-            tag,
+            hash,
             begin,
             count,
             plain,
             entry,
         });
-        self.slots.note(tag, index);
+        self.slots.note(hash, index);
         Some(index)
     }
 
@@ -178,21 +178,21 @@ impl<E: PlainEntry> UnitTable<E> {
     pub(crate) fn read(&mut self, key: &[u8]) -> Option<u32>
         ensures { Gains self.old self.new result (IsUnitOf E.reads self.new key.now true) }
     {
-        let tag = self.slots.tag(key);
-        match self.find(key, true, tag) {
+        let hash = self.slots.hash(key);
+        match self.find(key, true, hash) {
             Some(index) => Some(index),
-            None => self.add(key, tag),
+            None => self.add(key, hash),
         }
     }
 
     // Keeps the unit that plain fields write.
     #[cold]
     #[inline(never)]
-    fn add(&mut self, key: &[u8], tag: u32) -> Option<u32>
+    fn add(&mut self, key: &[u8], hash: u32) -> Option<u32>
         ensures { Gains self.old self.new result (IsUnitOf E.reads self.new key.now true) }
     {
         let entry = E::read(key)?;
-        self.push(key, true, tag, entry)
+        self.push(key, true, hash, entry)
     }
 
     /// The index of a unit that csv read, which is kept if it isn't found. Its bytes have to
@@ -202,10 +202,10 @@ impl<E: PlainEntry> UnitTable<E> {
         ensures { Gains self.old self.new result
             (λ p. slice_get self.new p ≡ Some (key.now, entry)) }
     {
-        let tag = self.slots.tag(key);
-        match self.find(key, false, tag) {
+        let hash = self.slots.hash(key);
+        match self.find(key, false, hash) {
             Some(index) if self.is_of(index, entry) => Some(index),
-            _ => self.push(key, false, tag, entry),
+            _ => self.push(key, false, hash, entry),
         }
     }
 
@@ -224,7 +224,7 @@ impl<E: PlainEntry> UnitTable<E> {
         let mut indices = [NOWHERE; TOGETHER];
         for n in 0..TOGETHER {
             if let Some(other) = others.known.get(from.wrapping_add(n)) {
-                indices[n] = self.slots.near(other.tag, 0).index;
+                indices[n] = self.slots.near(other.hash, 0).index;
             }
         }
         indices
@@ -262,15 +262,15 @@ impl<E: PlainEntry> UnitTable<E> {
             (λ p. slice_get self.new p ≡ slice_get others.now at) }
     {
         let (key, plain, entry) = others.at(at);
-        let tag = others.known[at].tag;
+        let hash = others.known[at].hash;
         let found = if self.is_at(guess, key, plain) {
             Some(guess)
         } else {
-            self.find(key, plain, tag)
+            self.find(key, plain, hash)
         };
         match found {
             Some(index) if self.is_of(index, entry) => Some(index),
-            _ => self.push(key, plain, tag, entry),
+            _ => self.push(key, plain, hash, entry),
         }
     }
 

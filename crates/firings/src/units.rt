@@ -5,11 +5,11 @@ ghost use Rattle.firings.specs.Units.{IsUnitIn, unit_in};
 
 use std::marker::Model;
 
-/// What is known of a unit: the tag of its bytes, where they begin among those of all and how many
-/// they are, whether they are plain fields, and what they say.
+/// What is known of a unit: the hash of its bytes, where they begin among all and how many they
+/// are, whether they are plain fields, and what they say.
 #[derive(Clone, Copy)]
 pub struct Known<E> {
-    pub tag: u32,
+    pub hash: u32,
     pub begin: u32,
     pub count: u32,
     pub plain: bool,
