@@ -15,15 +15,17 @@ from dataclasses import dataclass
 PROOFS = ["Answers.antt", "Invariants.antt", "Proof.antt"]
 # The goals of which a function has one for each way through it. Others are safety at one place.
 OF_WAYS = re.compile(r"returns|loop|decreases|invariant_of")
+OF_BRANCHES = re.compile("Then|Else|In")
 
 
 @dataclass
 class Shape:
-    """What a function calls, in order, its goals of each way, all names of goals and places, and by
-    the name of each place those of the places from which it can be named."""
+    """What a function calls, in order, its goals of each way, its branches, all names of goals and
+    places, and by the name of each place those of the places from which it can be named."""
 
     calls: list
     ways: list
+    branches: list
     names: set
     below: dict
 
@@ -61,7 +63,9 @@ def shape_of(entry):
     places = entry["places"]
     calls = [it[3] for it in places if it[3]]
     below = names_below(places)
-    return Shape(calls, [it for it in goals if OF_WAYS.match(it)], {*goals, *below}, below)
+    ways = [it for it in goals if OF_WAYS.match(it)]
+    branches = [it for it in entry["places_by_name"] if OF_BRANCHES.match(it)]
+    return Shape(calls, ways, branches, {*goals, *below}, below)
 
 
 def names_below(places):
@@ -124,6 +128,8 @@ def tell_new_shape(function, old, new, text):
             return f"calls, without [{gone}] and with [{come}]"
         if len(was.ways) != len(now.ways):
             return f"{len(now.ways)} ways in place of {len(was.ways)}"
+        if "-via-" in text and was.branches != now.branches:
+            return "other branches, and proofs tell apart from which one they come"
         gone = sorted(it for it in was.names - now.names if is_cited(it, text))
         if gone:
             return f"names that proofs cite: {' '.join(gone)}"
