@@ -18,6 +18,7 @@ OWNER = re.compile(
     r"(?: (?:\w+::)*(?P<trait>\w+)(?P<by><.*>)? for)? (?:\w+::)*(?P<type>\w+)",
     re.MULTILINE,
 )
+ABOVE = re.compile(r"(?:^ *(?:#|//).*\n)*\Z", re.MULTILINE)
 CYCLE = re.compile(r"#\[cycle\((\w+)\)\]\n(?: *(?:#|//).*\n)*\Z")
 CLOSURE = re.compile(r"::fn::(.+)::[^:]+(?:::call\w*)?$")
 
@@ -46,12 +47,6 @@ class Function:
             return last.startswith(whole)
         return last == whole + self.arguments
 
-    def search_name(self):
-        """Returns the name that the prover finds it by: that of its module, where its path isn't
-        known to the end."""
-        owner = self.of_type + self.trait if self.of_type else self.module
-        return self.module if self.arguments else "::".join(filter(None, [owner, self.name]))
-
     def is_like(self, other):
         """Returns whether what is said of one may be said of the other: they are the same, or
         methods of one name, which have one proof where their types contain each other."""
@@ -69,12 +64,15 @@ class Function:
 
 @dataclass
 class Change:
-    """What an edit changes: the functions, each with its new text, whether nothing more than
-    functions, and whether only their bodies."""
+    """What an edit changes: the functions, each with its new text; files of proofs, with their
+    texts; whether nothing more than bodies of functions; and whether nothing that the prover reads
+    for other functions: bodies, or contracts that nothing else in the crate names, as those of
+    laws."""
 
     functions: dict
-    is_of_functions: bool
+    proofs: dict
     is_of_bodies: bool
+    is_apart: bool
 
     def length(self):
         return sum(map(len, self.functions.values()))
@@ -111,6 +109,15 @@ def split(text, path):
     return found, FUNCTION.sub(r"\g<name>", text)
 
 
+def texts_of(text, path):
+    """Returns the whole text of each function of a file, with its attributes and comments."""
+    found = {}
+    for function, it in functions_in(text, path):
+        above = ABOVE.search(text, 0, it.start())[0]
+        found[function] = "".join([found.get(function, ""), above, it[0]])
+    return found
+
+
 def with_stubs(text, path, stub, functions):
     """Returns a file's text with this stub as the body of each of these functions, which is then in
     no cycle of calls."""
@@ -128,33 +135,37 @@ def with_stubs(text, path, stub, functions):
 
 
 def changed(old, new, path):
-    """Returns what differs in two texts of a file, or None if one has a function that the other
+    """Returns the new texts of the functions that differ in two texts of a file, and whether all
+    around them, and their heads, are the same; or None if one has a function that the other
     lacks."""
     (functions, around), (new_functions, new_around) = split(old, path), split(new, path)
     if functions.keys() != new_functions.keys():
         return None
     found = [it for it in functions if functions[it] != new_functions[it]]
-    has_heads = any(functions[it][0] != new_functions[it][0] for it in found)
-    is_same = around == new_around
-    texts = {it: "".join(new_functions[it]) for it in found}
-    return Change(texts, is_same, is_same and not has_heads)
+    has_heads = all(functions[it][0] == new_functions[it][0] for it in found)
+    texts = texts_of(new, path)
+    return {it: texts[it] for it in found}, around == new_around, has_heads
 
 
 def changed_in(folder, texts):
     """Returns what these new texts of a folder's files change, or None if no function is
-    changed, or one is added or taken away."""
-    found = Change({}, True, True)
-    for path, text in texts.items():
+    changed, one is added or taken away, or a file is of neither sources nor proofs."""
+    proofs = {path: text for path, text in texts.items() if path.startswith("proofs/")}
+    functions, is_same_around, has_heads = {}, True, True
+    for path in texts.keys() - proofs.keys():
         if not path.startswith("src/"):
             return None
         with open(f"{folder}/{path}", encoding="utf-8") as file:
-            change = changed(file.read(), text, path)
+            change = changed(file.read(), texts[path], path)
         if not change:
             return None
-        found.functions.update(change.functions)
-        found.is_of_functions &= change.is_of_functions
-        found.is_of_bodies &= change.is_of_bodies
-    return found if found.functions else None
+        functions.update(change[0])
+        is_same_around &= change[1]
+        has_heads &= change[2]
+    is_of_bodies = is_same_around and has_heads
+    are_named = not has_heads and any(is_named_elsewhere(folder, it) for it in functions)
+    is_apart = is_same_around and not are_named
+    return Change(functions, proofs, is_of_bodies, is_apart) if functions else None
 
 
 def is_named_elsewhere(folder, function):

@@ -10,6 +10,10 @@ def control_of(crate, edit):
     return f"{top}/tests/controls/{crate.name}/{os.path.basename(edit)}"
 
 
+def is_control(path):
+    return os.path.basename(os.path.dirname(path)) != "must-fail"
+
+
 def text_of(path):
     """Returns a file's text, or '' if it isn't there."""
     with contextlib.suppress(FileNotFoundError), open(path, encoding="utf-8") as file:
@@ -28,7 +32,8 @@ class Refusals:
         self.kept = rt.Kept(list({it.name: it for it in crates}.values()), is_anew)
         self.scripts = hashlib.sha256(repr(is_beside).encode())
         here = os.path.dirname(__file__)
-        scripts = "../edits bodies.py jobs.py places.py skeletons.py toolchain.py without_advice"
+        scripts = "../edits bodies.py copies.py jobs.py places.py"
+        scripts += " skeletons.py toolchain.py without_advice"
         for script in scripts.split():
             with open(f"{here}/{script}", "rb") as file:
                 self.scripts.update(file.read())

@@ -9,8 +9,9 @@ import copy
 import os
 import re
 import shutil
+from dataclasses import dataclass
 
-from lib import bodies
+from lib import bodies, copies
 
 STUB = "unreachable!()"
 # The heads of functions whose bodies the compiler has to see.
@@ -23,17 +24,84 @@ pub {name}_spec : {{M : Type 1}} → statement M
 """
 
 
-def skeleton_of(crate, parts, paths, kept, folder):
-    """Makes a skeleton of a crate in a new folder, and returns it. The functions that are kept are
-    as they are, and so are those of their cycles of calls. The prover has named the crate's
-    functions by these paths."""
+@dataclass
+class Ground:
+    """What edits are tried over: a crate or its skeleton, the crate itself, the paths of its
+    functions, and of those that copies may stand for; and the flags that it is checked with."""
+
+    crate: object
+    whole: object
+    paths: list
+    may_have_copies: dict
+    flags: list
+
+    def has_copies(self, change):
+        return copies.has_copies(change, self.may_have_copies)
+
+    def paths_of(self, functions):
+        return [it for it in self.paths if any(function.is_at(it) for function in functions)]
+
+    def plant(self, parts, texts, changes, folder):
+        """Makes a crate in a folder, with these texts in place of its own, and copies for those of
+        the changes that have them. Returns it, and for each change what stands for its functions,
+        each with its paths."""
+        made = copy_of(self.crate, parts, folder)
+        for path, text in texts.items():
+            write(f"{folder}/{path}", text)
+        apart = {it: change for it, change in changes.items() if self.has_copies(change)}
+        stand = dict(zip(apart, copies.copies_of(apart.values())))
+        every = [it for found in stand.values() for it in found]
+        for path, text in [*sources(folder)] if every else []:
+            write(f"{folder}/{path}", copies.with_copies(text, path, every))
+        for it in every:
+            for path, text in copies.proofs_of(it, self.may_have_copies[it.function], self.whole):
+                write(f"{folder}/{path}", text)
+        return made, {it: self.find(change, stand.get(it)) for it, change in changes.items()}
+
+    def find(self, change, stand):
+        """Returns what stands for a change's functions, each with its paths."""
+        if not stand:
+            return {it: self.paths_of([it]) for it in change.functions}
+        return {it.as_function(): [*map(it.renamed, self.paths_of([it.function]))] for it in stand}
+
+
+    def unedited(self, changes):
+        """Returns what stands for the functions of these changes, and changes nothing: copies of
+        them, or they themselves."""
+        apart = {it for change in changes if self.has_copies(change) for it in change.functions}
+        in_place = {it for one in changes if not self.has_copies(one) for it in one.functions}
+        texts = {}
+        for path, text in sources(self.whole.folder):
+            texts.update(bodies.texts_of(text, path))
+        own = {it: texts[it] for it in apart}
+        return [
+            bodies.Change(own, {}, is_of_bodies=True, is_apart=True),
+            bodies.Change(dict.fromkeys(in_place, ""), {}, is_of_bodies=True, is_apart=False),
+        ]
+
+
+def copy_of(crate, parts, folder):
+    """Copies a crate to a folder, and returns the copy."""
     for part in parts:
         if os.path.isdir(f"{crate.folder}/{part}"):
             shutil.copytree(f"{crate.folder}/{part}", f"{folder}/{part}")
+    made = copy.copy(crate)
+    made.folder = folder
+    return made
+
+
+def skeleton_of(crate, parts, paths, changes, folder):
+    """Makes a skeleton of a crate in a new folder, for trying these changes. What they change in
+    place is as it is, and so are its cycles of calls. The prover has named the crate's functions by
+    these paths."""
+    made = copy_of(crate, parts, folder)
+    every = paths_of_all(folder, paths)
+    in_place = [it for it in changes if not copies.has_copies(it, every)]
+    kept = {function for change in in_place for function in change.functions}
     cycles = {it.cycle for it in kept if it.cycle}
     stubs = {
         function: path
-        for function, path in paths_of_all(folder, paths).items()
+        for function, path in every.items()
         if function not in kept and function.cycle not in cycles
     }
     for path, text in sources(folder):
@@ -41,9 +109,7 @@ def skeleton_of(crate, parts, paths, kept, folder):
     remove_proofs(f"{folder}/proofs", {it.cycle for it in stubs})
     for path in stubs.values():
         write_hole(crate.name, f"{folder}/proofs", path)
-    made = copy.copy(crate)
-    made.folder = folder
-    return made
+    return Ground(made, crate, paths, every, ["--allow-holes"])
 
 
 def sources(folder):
