@@ -1,4 +1,5 @@
 -- What typed scripts mean.
+-- Source: Dynamic Tracing Guide, "D Program Structure".
 use Rattle.std.specs.Prelude.{List, Ok}
 use Rattle.d_types.specs.Vocabulary.{MAX_BYTES, AreSmall, IsWithin, ItemTree}
 use Rattle.d_types.specs.Typed.{ScriptMeant}

@@ -1,7 +1,7 @@
 //! Hashers that begin at a secret state.
 
 ghost use Rattle.std.specs.Prelude.{◌≡◌, ℕ, List};
-ghost use Rattle.std.specs.Hash.FoldHasher as folding;
+ghost use Rattle.std.specs.Hash.FoldHasher.{folded_multiply};
 ghost use Rattle.keyed_hash.specs.Hashing.{key_of, mix as mix_of};
 
 use std::hash::{BuildHasher, FoldHasher, Hasher};
@@ -85,7 +85,7 @@ impl BuildHasher for HashKey {
 // The product of two numbers, its upper half joined to its lower.
 #[inline(always)]
 fn folded_product(left: u64, right: u64) -> u64
-    ensures { result ≡ folding.folded_multiply left right }
+    ensures { result ≡ folded_multiply left right }
 {
     let product = left as u128 * right as u128;
     (product & 0xffff_ffff_ffff_ffff) as u64 ^ (product >> 64) as u64
