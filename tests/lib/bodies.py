@@ -26,7 +26,8 @@ CLOSURE = re.compile(r"::fn::(.+)::[^:]+(?:::call\w*)?$")
 @dataclass(frozen=True)
 class Function:
     """A function: the module that it is written in, its type and trait if it is a method, the
-    trait's arguments, and the cycle of calls that it is in, if any."""
+    trait's arguments, and the cycle of calls that it is in, if any: that of its own name if it
+    calls itself alone."""
 
     module: str
     of_type: str
@@ -96,8 +97,11 @@ def functions_in(text, path):
         owners = [*OWNER.finditer(text, 0, it.start())] if it["deep"] else []
         owner = owners[-1].groupdict("") if owners else {"type": "", "trait": "", "by": ""}
         cycle = CYCLE.search(text, 0, it.start())
+        itself = r"\b(?:self\.|Self::)" if owner["type"] else r"(?<![\w:.])"
+        calls_itself = re.search(rf"{itself}{it['name']}\(", it["body"] or "")
         whose = owner["type"], owner["trait"], owner["by"].strip("<>")
-        yield Function(module, *whose, it["name"], cycle[1] if cycle else ""), it
+        name = cycle[1] if cycle else it["name"] if calls_itself else ""
+        yield Function(module, *whose, it["name"], name), it
 
 
 def split(text, path):

@@ -23,9 +23,11 @@ def has_copies(change, paths):
 
 
 def folders_of(path):
-    """Returns the folders with the proofs of a function and of its closures."""
+    """Returns the folders with the proofs of a function and of its closures. Those of a method's
+    closures are beside its type."""
     *above, name = path.split("::")
-    return ["/".join(["proofs", *above, name]), "/".join(["proofs", *above, "fn", name])]
+    places = [[*above, name], [*above, "fn", name], [*above[:-1], "fn", *above[-1:], name]]
+    return ["/".join(["proofs", *it]) for it in places]
 
 
 @dataclass
@@ -43,9 +45,8 @@ class Copy:
     def renamed(self, path):
         """Returns the copy's path, if this is of its function, or that of the same closure."""
         name = self.function.name
-        if f"::fn::{name}::" in f"::{path}":
-            return path.replace(f"fn::{name}::", f"fn::{self.name}::", 1)
-        return path.removesuffix(name) + self.name
+        closure, count = re.subn(rf"(\bfn::(?:\w+::)?){name}(?=::)", rf"\g<1>{self.name}", path, 1)
+        return closure if count else path.removesuffix(name) + self.name
 
     def text_renamed(self):
         head = rf"(?m)^((?! *//).*\bfn ){self.function.name}\b"

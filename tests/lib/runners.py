@@ -8,6 +8,9 @@ import tempfile
 
 from lib import harness
 
+# `rt try`, without a check that it has run beside.
+TRY_ALONE = f"{os.path.dirname(__file__)}/try_alone"
+
 
 def lines_of(names):
     """The lines of crates.txt for the crates of these names and those that they depend on."""
@@ -55,7 +58,7 @@ def run(runner, names, inputs, words=(), c_code=()):
             with open(f"{room}/cases/{name}", "w", encoding="ascii") as file:
                 file.write(text)
         ran = subprocess.run(
-            ["rt", "try", "--steps", "1", *words, "--cases", f"{room}/cases"],
+            [TRY_ALONE, "--steps", "1", *words, "--cases", f"{room}/cases"],
             cwd=f"{room}/crates/{runner}",
             env={**os.environ, "RT_ALLOW_C": runner} if c_code else None,
             capture_output=True,

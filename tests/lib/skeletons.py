@@ -108,7 +108,7 @@ def skeleton_of(crate, parts, paths, changes, folder):
         write(f"{folder}/{path}", bodies.with_stubs(text, path, STUB, stubs))
     remove_proofs(f"{folder}/proofs", {it.cycle for it in stubs})
     for path in stubs.values():
-        write_hole(crate.name, f"{folder}/proofs", path)
+        write_hole(crate.name, folder, path)
     return Ground(made, crate, paths, every, ["--allow-holes"])
 
 
@@ -134,14 +134,15 @@ def paths_of_all(folder, paths):
     return {each[0]: at for at, each in whose.items() if len(each) == 1}
 
 
-def write_hole(crate, proofs, path):
+def write_hole(crate, folder, path):
     """Replaces a function's proof, and those of its closures, by a hole."""
     *above, name = path.split("::")
-    folder = "/".join([proofs, *above, name])
-    remove_files(folder)
-    shutil.rmtree("/".join([proofs, *above, "fn", name]), ignore_errors=True)
+    whole, *closures = (f"{folder}/{it}" for it in copies.folders_of(path))
+    remove_files(whole)
+    for closure in closures:
+        shutil.rmtree(closure, ignore_errors=True)
     names = {"crate": crate, "at": ".".join([*above, name]), "name": name}
-    write(f"{folder}/Proof.antt", PROOF.format(**names))
+    write(f"{whole}/Proof.antt", PROOF.format(**names))
 
 
 def remove_proofs(proofs, cycles):

@@ -23,10 +23,11 @@ USED = "rattle-last-used"
 # What the prover adds to the name of a folder of kept work for that of its suggestions.
 OFFERS = ["-offers", "-with-holes-offers"]
 # What rt's library has: a crate's files, the crates below a folder and their locks, layouts, the
-# program that proves, and the folders of a crate. A crate of it has `below`, `build_rlib`, `count`,
-# `folder`, `is_built`, `is_program`, `name`, `run` and `words`. The program that proves names a
-# crate's goals without a proof, by the flags that `rt names` gives it (lib/shapes.py).
-OF_LIBRARY = "PARTS RATTLE STALE crates_below files_of fmt guarded lock text_of".split()
+# program that proves, rt's commands, and the folders of a crate. A crate of it has `below`,
+# `build_rlib`, `count`, `folder`, `is_built`, `is_program`, `name`, `run` and `words`. The program
+# that proves names a crate's goals without a proof, by the flags that `rt names` gives it
+# (lib/shapes.py).
+OF_LIBRARY = "PARTS RATTLE STALE crates_below files_of fmt guarded lock main text_of".split()
 
 
 class KeepsNothing:
