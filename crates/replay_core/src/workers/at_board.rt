@@ -85,7 +85,8 @@ impl<'a> LendSelections for Selections<'a> {
 }
 
 /// Runs a worker for each seat, all at once, and joins them. If one can't be started, the others
-/// are joined too. The workers are lent these selections, and not those of the input.
+/// are joined too. Their closures can't capture the input itself, so the workers are lent these
+/// selections, and not the input's: see `LendSelections`.
 pub(crate) fn in_threads<R, L, S, G>(
     rt: &R,
     board: &ClaimBoard,
@@ -106,7 +107,6 @@ where
     ensures works { IfOk result (λ v. All (HasWorked span (L.runs input.now.lanes.now)
         input.now.groups.now input.now.trace.now board.now) v.items) }
 {
-    // Closures can't capture the input itself: see `LendSelections`.
     let (alloc, lanes, trace) = (input.alloc, input.lanes, input.trace);
     let (groups, gate) = (input.groups, input.gate);
     thread::scope(
