@@ -1,8 +1,9 @@
 """Skeletons of a crate: copies in which some functions are as they are, and of the others only the
-contracts are left. Their bodies are stubs, and their proofs holes.
+contracts are left. Their bodies are stubs, and their proofs rest on a hole.
 
 What calls a function rests on its contract alone. So over a skeleton the prover says of a function
-what it says over the whole crate, and proves no function that this one calls.
+what it says over the whole crate, and proves no function that this one calls. There is one hole, in
+a file of lemmas: the prover prints the goal of each, which takes it a second for a contract.
 """
 import contextlib
 import copy
@@ -17,10 +18,15 @@ STUB = "unreachable!()"
 # The heads of functions whose bodies the compiler has to see.
 IN_FULL = re.compile(r"\bconst fn\b|->\s*impl\b")
 PROOF = """\
+use Rattle.{crate}.proofs.Assumed.{{assumed}}
 use Rattle.{crate}.proofs.{at}.Statement.{{statement}}
 
 pub {name}_spec : {{M : Type 1}} → statement M
-{name}_spec = ?
+{name}_spec = assumed
+"""
+ASSUMED = """\
+pub assumed : {A : Type 2} → A
+assumed = ?
 """
 
 
@@ -107,8 +113,9 @@ def skeleton_of(crate, parts, paths, changes, folder):
     for path, text in sources(folder):
         write(f"{folder}/{path}", bodies.with_stubs(text, path, STUB, stubs))
     remove_proofs(f"{folder}/proofs", {it.cycle for it in stubs})
+    write_assumed(f"{folder}/proofs")
     for path in stubs.values():
-        write_hole(crate.name, folder, path)
+        assume(crate.name, folder, path)
     return Ground(made, crate, paths, every, ["--allow-holes"])
 
 
@@ -134,8 +141,15 @@ def paths_of_all(folder, paths):
     return {each[0]: at for at, each in whose.items() if len(each) == 1}
 
 
-def write_hole(crate, folder, path):
-    """Replaces a function's proof, and those of its closures, by a hole."""
+def write_assumed(proofs):
+    """Writes the file of lemmas that has the hole, and declares it."""
+    write(f"{proofs}/Assumed.antt", ASSUMED)
+    with open(f"{proofs}/Lib.antt", "a", encoding="utf-8") as file:
+        file.write("mod Assumed\n")
+
+
+def assume(crate, folder, path):
+    """Replaces a function's proof, and those of its closures, by what rests on the hole."""
     *above, name = path.split("::")
     whole, *closures = (f"{folder}/{it}" for it in copies.folders_of(path))
     remove_files(whole)
