@@ -6,6 +6,8 @@ mod collecting;
 #[cfg(test)]
 mod cut_bundles;
 #[cfg(test)]
+mod programs;
+#[cfg(test)]
 mod replays;
 #[cfg(test)]
 mod stream_calls;

@@ -3,7 +3,7 @@
 
 use crate::stream_calls::read;
 use consumer::{
-    ConsumeFault, Consumer, EngineKind, GroupPlan, Plan, Refusal, Replayed, refusal_status,
+    ConsumeFault, Consumer, EngineKind, GroupPlan, Help, Plan, Refusal, Replayed, refusal_status,
     refusal_text,
 };
 use d_lexer::LexFault;
@@ -19,9 +19,10 @@ use std::thread::Threads;
 use streams::Watched;
 use streams::faulty::Faulty;
 
-const SCRIPT: &[u8] = b"syscall::read:entry { @[execname] = count(); }";
+pub(crate) const SCRIPT: &[u8] = b"syscall::read:entry { @[execname] = count(); }";
 
-const TRACE: &[u8] = b"number,cpu,thread,pid,execname,time,provider,module,function,name,\
+pub(crate) const TRACE: &[u8] =
+    b"number,cpu,thread,pid,execname,time,provider,module,function,name,\
 arg0,arg1,arg2,arg3,arg4,arg5,arg6,arg7,arg8,arg9\n\
 1,0,7,700,cat,1000,syscall,,read,entry,3,0,0,0,0,0,0,0,0,0\n\
 4,0,8,700,cat,1000,syscall,,write,entry,3,0,0,0,0,0,0,0,0,0";
@@ -29,12 +30,13 @@ arg0,arg1,arg2,arg3,arg4,arg5,arg6,arg7,arg8,arg9\n\
 const NO_ROWS: &[u8] = b"number,cpu,thread,pid,execname,time,provider,module,function,name,\
 arg0,arg1,arg2,arg3,arg4,arg5,arg6,arg7,arg8,arg9";
 
-const BUNDLE: &[u8] = b"syscall::read:entry { @[execname] = count(); }\n---\n\
+pub(crate) const BUNDLE: &[u8] = b"syscall::read:entry { @[execname] = count(); }\n---\n\
 number,cpu,thread,pid,execname,time,provider,module,function,name,\
 arg0,arg1,arg2,arg3,arg4,arg5,arg6,arg7,arg8,arg9\n\
 1,0,7,700,cat,1000,syscall,,read,entry,3,0,0,0,0,0,0,0,0,0";
 
-const SHOWN: &[u8] = b"\n  cat                                                               1\n";
+pub(crate) const SHOWN: &[u8] =
+    b"\n  cat                                                               1\n";
 
 const EXITING: &[u8] = b":::hit / arg0 / { exit(arg0); } :::hit { @ = count(); } \
 dtrace:::END { printf(\"end\\n\"); }";
@@ -126,6 +128,12 @@ const SAID: [(Refusal, u8, &str); 17] = [
         "dreplay: groups refused: Group 4",
     ),
 ];
+
+pub(crate) const HELP: Help = Help {
+    usage: "dreplay [OPTIONS]",
+    about: "Replays a D script over a recorded trace",
+    more: "No more.",
+};
 
 /// Gives answers in the layout for people.
 pub(crate) fn reporting<R: AllocGlobal>(rt: &R) -> Consumer<'_, R, Report> {
